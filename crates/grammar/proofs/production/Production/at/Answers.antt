@@ -1,0 +1,12 @@
+use mathlib.Core.Path.{sym, ap, _∙_}
+use native.Mathlib.Omega.{arith}
+use Rattle.std.specs.shelf.Maps.{nth}
+use Rattle.grammar.proofs.Elements.{item-nth, nth-later}
+use Rattle.grammar.proofs.production.Production.at.Needs as need
+
+pub returns-in-rest : need.returns-in-rest
+returns-in-rest c =
+    c .copied .ensures
+    ∙ item-nth (c .args .self .now .right .now) (c .from .result) (c .get .result) (c .get .ensures .finds)
+    ∙ ap (nth (c .args .self .now .right .now)) (c .from .ensures)
+    ∙ sym (nth-later (c .args .self .now .left) (c .args .self .now .right .now) (c .args .occurrence) (omega arith))

@@ -1,0 +1,143 @@
+// The symbols at the occurrences of one rule.
+ghost use mathlib.Core.Path.{_≡_};
+ghost use Prim.Native.Nat.{ℕ};
+ghost use Rattle.std.specs.Options.{mapped};
+ghost use Rattle.std.specs.shelf.Maps.{nth};
+ghost use Rattle.grammar.specs.Rows.{symbolOf};
+ghost use Rattle.grammar.specs.Scopes.{scopeOf, symbolAt, visitsAt, attributeAt, flows, definedFlow, takenFlow, defines, takes, argumentThere, argumentTaken, visitThere, instructionThere};
+use super::rows::SymbolRow;
+use super::terms::Argument;
+use super::terms::Attribute;
+use super::terms::Flow;
+use super::terms::Instruction;
+
+// Occurrence 0 is the left symbol, 1 to 4 are the right ones.
+#[derive(Clone, Copy)]
+pub struct Production<'a> {
+    pub symbols: &'a [SymbolRow],
+    pub left: u16,
+    pub right: &'a [u16],
+}
+
+fn flows(attribute: Option<Attribute>, flow: Flow) -> bool
+    ensures { λ r. ⌜ r ≡ flows flow attribute ⌝ }
+{
+    match attribute {
+        Some(
+            Attribute {
+                flow: Flow::Inherited,
+                ..
+            },
+        ) => matches!(flow, Flow::Inherited),
+        Some(
+            Attribute {
+                flow: Flow::Synthesized,
+                ..
+            },
+        ) => matches!(flow, Flow::Synthesized),
+        None => false,
+    }
+}
+
+impl<'a> Production<'a> {
+    // The number of the symbol at an occurrence.
+    fn at(&self, occurrence: u16) -> Option<u16>
+        ensures { λ r. ⌜ r ≡ nth (scopeOf (now (self .entry)) .occurrences) occurrence ⌝ }
+    {
+        match occurrence {
+            0 => Some(self.left),
+            _ => self.right.get(usize::from(occurrence - 1)).copied(),
+        }
+    }
+
+    // The symbol at an occurrence.
+    pub fn symbol(&self, occurrence: u16) -> Option<&'a SymbolRow>
+        ensures { λ r. ⌜ mapped (λ x. symbolOf (now x)) r ≡ symbolAt (scopeOf (now (self .entry))) occurrence ⌝ }
+    {
+        let at = self.at(occurrence)?;
+        self.symbols.get(usize::from(at))
+    }
+
+    // How many visits an occurrence has.
+    pub fn visits(&self, occurrence: u16) -> u16
+        ensures { λ r. ⌜ r ≡ visitsAt (scopeOf (now (self .entry))) occurrence ⌝ }
+    {
+        match self.symbol(occurrence) {
+            Some(symbol) => symbol.visits,
+            None => 0,
+        }
+    }
+
+    pub fn attribute(&self, occurrence: u16, attribute: u16) -> Option<Attribute>
+        ensures { λ r. ⌜ r ≡ attributeAt (scopeOf (now (self .entry))) occurrence attribute ⌝ }
+    {
+        let symbol = self.symbol(occurrence)?;
+        symbol
+            .attributes
+            .as_slice()
+            .get(usize::from(attribute))
+            .copied()
+    }
+
+    // Whether the rule has an equation for that attribute.
+    pub fn defines(&self, occurrence: u16, attribute: u16) -> bool
+        ensures { λ r. ⌜ r ≡ defines (scopeOf (now (self .entry))) occurrence attribute ⌝ }
+    {
+        let flow = if occurrence == 0 {
+            Flow::Synthesized
+        } else {
+            Flow::Inherited
+        };
+        flows(self.attribute(occurrence, attribute), flow)
+    }
+
+    // Whether an equation of the rule may take that attribute.
+    pub fn takes(&self, occurrence: u16, attribute: u16) -> bool
+        ensures { λ r. ⌜ r ≡ takes (scopeOf (now (self .entry))) occurrence attribute ⌝ }
+    {
+        let flow = if occurrence == 0 {
+            Flow::Inherited
+        } else {
+            Flow::Synthesized
+        };
+        flows(self.attribute(occurrence, attribute), flow)
+    }
+
+    // Whether an argument names an attribute that is there.
+    pub fn argument_there(&self, argument: Argument) -> bool
+        ensures { λ r. ⌜ r ≡ argumentThere (scopeOf (now (self .entry))) argument ⌝ }
+    {
+        match argument {
+            Argument::Datum => true,
+            Argument::Of(occurrence, attribute) => self.attribute(occurrence, attribute).is_some(),
+        }
+    }
+
+    // Whether an equation of the rule may have that argument.
+    pub fn argument_taken(&self, argument: Argument) -> bool
+        ensures { λ r. ⌜ r ≡ argumentTaken (scopeOf (now (self .entry))) argument ⌝ }
+    {
+        match argument {
+            Argument::Datum => true,
+            Argument::Of(occurrence, attribute) => self.takes(occurrence, attribute),
+        }
+    }
+
+    fn visit_there(&self, occurrence: u16, visit: u16) -> bool
+        ensures { λ r. ⌜ r ≡ visitThere (scopeOf (now (self .entry))) occurrence visit ⌝ }
+    {
+        1 <= visit && visit <= self.visits(occurrence)
+    }
+
+    // Whether an instruction names an attribute or a visit that is there.
+    pub fn instruction_there(&self, instruction: Instruction) -> bool
+        ensures { λ r. ⌜ r ≡ instructionThere (scopeOf (now (self .entry))) instruction ⌝ }
+    {
+        match instruction {
+            Instruction::Evaluate(occurrence, attribute) => self.attribute(occurrence, attribute)
+                .is_some(),
+            Instruction::Visit(occurrence, visit) => self.visit_there(occurrence, visit),
+            Instruction::Return(visit) => self.visit_there(0, visit),
+        }
+    }
+}
