@@ -3,6 +3,7 @@ use mathlib.Core.Bool.{Bool, true, false, _&&_}
 use mathlib.Core.List.{List, [], _∷_, map}
 use Prim.Native.Nat.{ℕ, zero, suc}
 use lib.Dec.{leb}
+use lib.ListN.{length}
 use Rattle.std.specs.Options.{isSome}
 use Rattle.std.specs.shelf.Maps.{nth}
 use Rattle.std.specs.declared.option.Option.{Option}
@@ -37,6 +38,14 @@ visitsIn (Some s) = s .visits
 -- the visits of an occurrence; 0 if it is not there
 abbrev pub visitsAt : Scope → ℕ → ℕ
 visitsAt σ o = visitsIn (symbolAt σ o)
+
+abbrev pub attributesIn : Option Symbol → ℕ
+attributesIn None = 0
+attributesIn (Some s) = length (s .attributes)
+
+-- how many attributes an occurrence has
+abbrev pub attributesAt : Scope → ℕ → ℕ
+attributesAt σ o = attributesIn (symbolAt σ o)
 
 -- an attribute of an occurrence, if it is there
 abbrev pub attributeAt : Scope → ℕ → ℕ → Option Attribute

@@ -1,10 +1,11 @@
 // The symbols at the occurrences of one rule.
 ghost use mathlib.Core.Path.{_≡_};
 ghost use Prim.Native.Nat.{ℕ};
+ghost use lib.ListN.{length};
 ghost use Rattle.std.specs.Options.{mapped};
 ghost use Rattle.std.specs.shelf.Maps.{nth};
 ghost use Rattle.grammar.specs.Rows.{symbolOf};
-ghost use Rattle.grammar.specs.Scopes.{scopeOf, symbolAt, visitsAt, attributeAt, flows, definedFlow, takenFlow, defines, takes, argumentThere, argumentTaken, visitThere, instructionThere};
+ghost use Rattle.grammar.specs.Scopes.{scopeOf, symbolAt, visitsAt, attributesAt, attributeAt, flows, definedFlow, takenFlow, defines, takes, argumentThere, argumentTaken, visitThere, instructionThere};
 use super::rows::SymbolRow;
 use super::terms::Argument;
 use super::terms::Attribute;
@@ -41,17 +42,17 @@ fn flows(attribute: Option<Attribute>, flow: Flow) -> bool
 
 impl<'a> Production<'a> {
     // The number of the symbol at an occurrence.
-    fn at(&self, occurrence: u16) -> Option<u16>
+    fn at(&self, occurrence: usize) -> Option<u16>
         ensures { λ r. ⌜ r ≡ nth (scopeOf (now (self .entry)) .occurrences) occurrence ⌝ }
     {
         match occurrence {
             0 => Some(self.left),
-            _ => self.right.get(usize::from(occurrence - 1)).copied(),
+            _ => self.right.get(occurrence - 1).copied(),
         }
     }
 
     // The symbol at an occurrence.
-    pub fn symbol(&self, occurrence: u16) -> Option<&'a SymbolRow>
+    pub fn symbol(&self, occurrence: usize) -> Option<&'a SymbolRow>
         ensures { λ r. ⌜ mapped (λ x. symbolOf (now x)) r ≡ symbolAt (scopeOf (now (self .entry))) occurrence ⌝ }
     {
         let at = self.at(occurrence)?;
@@ -59,7 +60,7 @@ impl<'a> Production<'a> {
     }
 
     // How many visits an occurrence has.
-    pub fn visits(&self, occurrence: u16) -> u16
+    pub fn visits(&self, occurrence: usize) -> u16
         ensures { λ r. ⌜ r ≡ visitsAt (scopeOf (now (self .entry))) occurrence ⌝ }
     {
         match self.symbol(occurrence) {
@@ -68,19 +69,25 @@ impl<'a> Production<'a> {
         }
     }
 
-    pub fn attribute(&self, occurrence: u16, attribute: u16) -> Option<Attribute>
+    // The attributes of an occurrence; none where there is no such occurrence.
+    pub fn attributes(&self, occurrence: usize) -> &'a [Attribute]
+        ensures each { λ r. ⌜ ((a : ℕ) → nth (now r) a ≡ attributeAt (scopeOf (now (self .entry))) occurrence a) ⌝ }
+        ensures count { λ r. ⌜ length (now r) ≡ attributesAt (scopeOf (now (self .entry))) occurrence ⌝ }
+    {
+        match self.symbol(occurrence) {
+            Some(symbol) => symbol.attributes.as_slice(),
+            None => &[],
+        }
+    }
+
+    pub fn attribute(&self, occurrence: usize, attribute: usize) -> Option<Attribute>
         ensures { λ r. ⌜ r ≡ attributeAt (scopeOf (now (self .entry))) occurrence attribute ⌝ }
     {
-        let symbol = self.symbol(occurrence)?;
-        symbol
-            .attributes
-            .as_slice()
-            .get(usize::from(attribute))
-            .copied()
+        self.attributes(occurrence).get(attribute).copied()
     }
 
     // Whether the rule has an equation for that attribute.
-    pub fn defines(&self, occurrence: u16, attribute: u16) -> bool
+    pub fn defines(&self, occurrence: usize, attribute: usize) -> bool
         ensures { λ r. ⌜ r ≡ defines (scopeOf (now (self .entry))) occurrence attribute ⌝ }
     {
         let flow = if occurrence == 0 {
@@ -92,7 +99,7 @@ impl<'a> Production<'a> {
     }
 
     // Whether an equation of the rule may take that attribute.
-    pub fn takes(&self, occurrence: u16, attribute: u16) -> bool
+    pub fn takes(&self, occurrence: usize, attribute: usize) -> bool
         ensures { λ r. ⌜ r ≡ takes (scopeOf (now (self .entry))) occurrence attribute ⌝ }
     {
         let flow = if occurrence == 0 {
@@ -109,7 +116,7 @@ impl<'a> Production<'a> {
     {
         match argument {
             Argument::Datum => true,
-            Argument::Of(occurrence, attribute) => self.attribute(occurrence, attribute).is_some(),
+            Argument::Of(occurrence, attribute) => self.attribute(usize::from(occurrence), usize::from(attribute)).is_some(),
         }
     }
 
@@ -119,11 +126,11 @@ impl<'a> Production<'a> {
     {
         match argument {
             Argument::Datum => true,
-            Argument::Of(occurrence, attribute) => self.takes(occurrence, attribute),
+            Argument::Of(occurrence, attribute) => self.takes(usize::from(occurrence), usize::from(attribute)),
         }
     }
 
-    fn visit_there(&self, occurrence: u16, visit: u16) -> bool
+    fn visit_there(&self, occurrence: usize, visit: u16) -> bool
         ensures { λ r. ⌜ r ≡ visitThere (scopeOf (now (self .entry))) occurrence visit ⌝ }
     {
         1 <= visit && visit <= self.visits(occurrence)
@@ -134,9 +141,9 @@ impl<'a> Production<'a> {
         ensures { λ r. ⌜ r ≡ instructionThere (scopeOf (now (self .entry))) instruction ⌝ }
     {
         match instruction {
-            Instruction::Evaluate(occurrence, attribute) => self.attribute(occurrence, attribute)
+            Instruction::Evaluate(occurrence, attribute) => self.attribute(usize::from(occurrence), usize::from(attribute))
                 .is_some(),
-            Instruction::Visit(occurrence, visit) => self.visit_there(occurrence, visit),
+            Instruction::Visit(occurrence, visit) => self.visit_there(usize::from(occurrence), visit),
             Instruction::Return(visit) => self.visit_there(0, visit),
         }
     }

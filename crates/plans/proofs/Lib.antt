@@ -1,0 +1,9 @@
+pub mod Deciding
+pub mod Places
+pub mod Standing
+pub mod TurnOrder
+pub mod Attributes
+pub mod Defining
+pub mod Ready
+pub mod Telling
+pub mod FirstRule

@@ -1,0 +1,3 @@
+pub mod PlanRules
+pub mod PlanTests
+pub mod Groups

@@ -1,0 +1,260 @@
+// One line after another goes into the tables, or is refused.
+ghost use mathlib.Core.Path.{_≡_};
+ghost use mathlib.Core.Bool.{not};
+ghost use mathlib.Core.List.{_∷_, map};
+ghost use Prim.Native.Nat.{ℕ, _+_, _-_, _<_, _≤_};
+ghost use lib.Dec.{ltb};
+ghost use lib.ListN.{length};
+ghost use Rattle.std.specs.Of.Vec.{vec-items};
+ghost use Rattle.std.specs.Options.{isSome};
+ghost use Rattle.std.specs.Vec.{made};
+ghost use Rattle.words.specs.Left.{left};
+ghost use Rattle.reader.specs.Lines.{symbolIn, ruleIn, setIn, planIn};
+ghost use Rattle.reader.specs.Steps.{nothing, isEmpty, allowed, between1, starts, symbolFault, ruleFault, hasTarget, setFault, faultOf};
+ghost use Rattle.reader.specs.LineKinds.Line.{setLine};
+ghost use Rattle.reader.specs.Read.{setOf};
+ghost use Rattle.grammar.specs.Scopes.{scopeOf};
+ghost use Rattle.plans.specs.PlanTests.{targets};
+ghost use Rattle.grammar.specs.Listed.{listed};
+ghost use Rattle.grammar.specs.Rows.{symbolOf, equationOf};
+ghost use Rattle.grammar.specs.Tests.{every};
+ghost use Rattle.reader.specs.Judgement.{onLine};
+ghost use Rattle.reader.specs.Views.{stateOf, Stepped};
+use super::checks::every;
+use super::checks::ArgumentTaken;
+use super::checks::ArgumentTakenCheck;
+use super::checks::ArgumentThere;
+use super::checks::ArgumentThereCheck;
+use super::checks::Check;
+use super::checks::SymbolThere;
+use super::checks::SymbolThereCheck;
+use super::checks::Synthesizes;
+use super::checks::SynthesizesCheck;
+use super::checks::VisitWithin;
+use super::checks::VisitWithinCheck;
+use super::lines::Key;
+use super::lines::equation;
+use super::lines::rule;
+use super::lines::symbol;
+use super::lines::RuleWords;
+use super::lines::SetWords;
+use super::rows::Opened;
+use super::tables::Tables;
+use grammar::EquationRow;
+use grammar::Production;
+use grammar::Refusal;
+use grammar::SymbolRow;
+use std::alloc::AllocError;
+use std::alloc::Global;
+use words::Words;
+
+impl Tables {
+    pub fn new(heap: Global) -> Result<Tables, AllocError>
+        ensures { λ r. ⌜ made r (λ t. stateOf t ≡ nothing) ⌝ }
+    {
+        let symbols = Vec::with_capacity(heap, 32)?;
+        let rules = Vec::with_capacity(heap, 64)?;
+        let equations = Vec::with_capacity(heap, 512)?;
+        let plan = Vec::with_capacity(heap, 1024)?;
+        Ok(Tables { symbols, rules, equations, plan, opened: None })
+    }
+
+    pub fn clear(&mut self)
+        ensures { λ _. ⌜ stateOf (now (self .exit)) ≡ nothing ⌝ }
+    {
+        self.symbols.clear();
+        self.rules.clear();
+        self.equations.clear();
+        self.plan.clear();
+        self.opened = None;
+    }
+
+    fn symbol_count(&self) -> usize
+        ensures { λ r. ⌜ r ≡ length (stateOf (now (self .entry)) .symbols) ⌝ }
+    {
+        self.symbols.len()
+    }
+
+    fn rule_count(&self) -> usize
+        ensures { λ r. ⌜ r ≡ length (stateOf (now (self .entry)) .rules) ⌝ }
+    {
+        self.rules.len()
+    }
+
+    fn has_symbols(&self) -> bool
+        ensures { λ r. ⌜ r ≡ not (isEmpty (stateOf (now (self .entry)) .symbols)) ⌝ }
+    {
+        !self.symbols.is_empty()
+    }
+
+    pub(super) fn has_rules(&self) -> bool
+        ensures { λ r. ⌜ r ≡ not (isEmpty (stateOf (now (self .entry)) .rules)) ⌝ }
+    {
+        !self.rules.is_empty()
+    }
+
+    pub(super) fn is_open(&self) -> bool
+        ensures { λ r. ⌜ r ≡ isSome (stateOf (now (self .entry)) .opened) ⌝ }
+    {
+        self.opened.is_some()
+    }
+
+    // Whether a line of that kind may come next.
+    pub(super) fn allows(&self, key: Key) -> bool
+        ensures { λ r. ⌜ r ≡ allowed (stateOf (now (self .entry))) key ⌝ }
+    {
+        match key {
+            Key::OfSymbol => !self.has_rules() && !self.is_open(),
+            Key::OfRule => self.has_symbols() && !self.is_open(),
+            Key::OfSet | Key::OfPlan => self.is_open(),
+        }
+    }
+
+    // What is wrong with a symbol that comes next.
+    fn symbol_fault(&self, symbol: &SymbolRow) -> Option<Refusal>
+        ensures { λ r. ⌜ r ≡ symbolFault (stateOf (now (self .entry)) .symbols) (symbolOf (now (symbol .entry)) .visits) (symbolOf (now (symbol .entry)) .attributes) ⌝ }
+    {
+        if symbol.visits < 1 || symbol.visits > 4 || self.symbol_count() >= 32 {
+            return Some(Refusal::Range);
+        }
+        if !visits_there(symbol) {
+            return Some(Refusal::Absent);
+        }
+        if !self.starts(symbol) {
+            return Some(Refusal::Start);
+        }
+        None
+    }
+
+    // Whether a symbol may stand where the next one goes: the first is the start.
+    fn starts(&self, symbol: &SymbolRow) -> bool
+        ensures { λ r. ⌜ r ≡ starts (stateOf (now (self .entry)) .symbols) (symbolOf (now (symbol .entry)) .visits) (symbolOf (now (symbol .entry)) .attributes) ⌝ }
+    {
+        self.has_symbols() || symbol.visits == 1 && every(&Synthesizes, symbol.attributes.as_slice())
+    }
+
+    pub(super) fn add_symbol(&mut self, words: Words<'_>) -> Result<(), Refusal>
+        ensures { λ r. ⌜ Stepped r (onLine (stateOf (now (self .entry))) (symbolIn (left (words .entry)))) (now (self .exit)) ⌝ }
+    {
+        let row = symbol(words)?;
+        match self.symbol_fault(&row) {
+            Some(refusal) => Err(refusal),
+            None => {
+                self.symbols.push_reserved(row);
+                Ok(())
+            }
+        }
+    }
+
+    // What is wrong with a rule that comes next.
+    fn rule_fault(&self, row: &RuleWords) -> Option<Refusal>
+        ensures { λ r. ⌜ r ≡ ruleFault (length (stateOf (now (self .entry)) .symbols)) (length (stateOf (now (self .entry)) .rules)) (now (row .entry) .left) (listed (now (row .entry) .right)) ⌝ }
+    {
+        if self.rule_count() >= 64 {
+            return Some(Refusal::Range);
+        }
+        if !symbols_there(self.symbol_count(), row) {
+            return Some(Refusal::Absent);
+        }
+        None
+    }
+
+    pub(super) fn open_rule(&mut self, words: Words<'_>) -> Result<(), Refusal>
+        ensures { λ r. ⌜ Stepped r (onLine (stateOf (now (self .entry))) (ruleIn (left (words .entry)))) (now (self .exit)) ⌝ }
+    {
+        let row = rule(words)?;
+        match self.rule_fault(&row) {
+            Some(refusal) => Err(refusal),
+            None => {
+                let RuleWords { left, right } = row;
+                self.opened = Some(Opened { left, right, start: self.equations.len() });
+                Ok(())
+            }
+        }
+    }
+
+    // What is wrong with an equation that comes next.
+    fn set_fault(&self, set: &SetWords) -> Option<Refusal>
+        ensures { λ r. ⌜ r ≡ faultOf (stateOf (now (self .entry))) (setLine (setOf (now (set .entry)))) ⌝ }
+    {
+        let Some(open) = &self.opened else {
+            return Some(Refusal::LineForm);
+        };
+        if set.function > 255 || self.equations.len() >= 512 {
+            return Some(Refusal::Range);
+        }
+        let production = Production { symbols: &self.symbols, left: open.left, right: open.right.as_slice() };
+        equation_fault(production, &self.equations[open.start..], set)
+    }
+
+    pub(super) fn add_equation(&mut self, words: Words<'_>) -> Result<(), Refusal>
+        ensures { λ r. ⌜ Stepped r (onLine (stateOf (now (self .entry))) (setIn (left (words .entry)))) (now (self .exit)) ⌝ }
+    {
+        let set = equation(words)?;
+        match self.set_fault(&set) {
+            Some(refusal) => Err(refusal),
+            None => {
+                let SetWords { occurrence, attribute, function, arguments } = set;
+                let function = function as u8;
+                self.equations.push_reserved(EquationRow { occurrence, attribute, function, arguments });
+                Ok(())
+            }
+        }
+    }
+}
+
+fn visits_there(symbol: &SymbolRow) -> bool
+    ensures { λ r. ⌜ r ≡ every (λ x. between1 (symbolOf (now (symbol .entry)) .visits) (x .visit)) (symbolOf (now (symbol .entry)) .attributes) ⌝ }
+{
+    let within = VisitWithin { visits: symbol.visits };
+    every(&within, symbol.attributes.as_slice())
+}
+
+fn symbols_there(count: usize, row: &RuleWords) -> bool
+    ensures { λ r. ⌜ r ≡ every (λ x. ltb x count) (now (row .entry) .left ∷ listed (now (row .entry) .right)) ⌝ }
+{
+    let there = SymbolThere { count };
+    there.check(row.left) && every(&there, row.right.as_slice())
+}
+
+fn is_target(e: &EquationRow, occurrence: usize, attribute: usize) -> bool
+    ensures { λ r. ⌜ r ≡ targets (equationOf (now (e .entry))) occurrence attribute ⌝ }
+{
+    usize::from(e.occurrence) == occurrence && usize::from(e.attribute) == attribute
+}
+
+pub(super) fn has_target(equations: &[EquationRow], occurrence: usize, attribute: usize) -> bool
+    ensures { λ r. ⌜ r ≡ hasTarget (map equationOf (now (equations .entry))) occurrence attribute ⌝ }
+{
+    for e in equations {
+        if is_target(e, occurrence, attribute) {
+            return true;
+        }
+    }
+    false
+}
+
+// What is wrong with an equation in a rule that has some already.
+fn equation_fault(production: Production<'_>, equations: &[EquationRow], set: &SetWords) -> Option<Refusal>
+    ensures { λ r. ⌜ r ≡ setFault (scopeOf (production .entry)) (map equationOf (now (equations .entry))) (setOf (now (set .entry))) ⌝ }
+{
+    let arguments = set.arguments.as_slice();
+    let occurrence = usize::from(set.occurrence);
+    let attribute = usize::from(set.attribute);
+    if production.attribute(occurrence, attribute).is_none() {
+        return Some(Refusal::Absent);
+    }
+    if !every(&ArgumentThere { production }, arguments) {
+        return Some(Refusal::Absent);
+    }
+    if !production.defines(occurrence, attribute) {
+        return Some(Refusal::Target);
+    }
+    if has_target(equations, occurrence, attribute) {
+        return Some(Refusal::Target);
+    }
+    if !every(&ArgumentTaken { production }, arguments) {
+        return Some(Refusal::BadArgument);
+    }
+    None
+}

@@ -1,0 +1,17 @@
+pub mod Statements
+pub mod Numerals
+pub mod WordForms
+pub mod Spacing
+pub mod LineForms
+pub mod Texts
+pub mod Places
+pub mod Deciding
+pub mod Broken
+pub mod Faults
+pub mod Sofar
+pub mod Forward
+pub mod Small
+pub mod Backward
+pub mod Refusals
+pub mod Acceptance
+pub mod Sameness
