@@ -10,4 +10,5 @@ mod tables;
 
 pub use fault::Fault;
 
+pub use rows::Span;
 pub use tables::Tables;

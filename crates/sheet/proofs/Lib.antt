@@ -15,3 +15,5 @@ pub mod Backward
 pub mod Refusals
 pub mod Acceptance
 pub mod Sameness
+pub mod Keeping
+pub mod Looking

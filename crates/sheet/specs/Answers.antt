@@ -1,7 +1,7 @@
 -- What the calls on sheets answer.
 use mathlib.Core.Path.{_≡_}
 use mathlib.Core.List.{List, [], _∷_, map}
-use Prim.Native.Nat.{ℕ}
+use Prim.Native.Nat.{ℕ, _-_}
 use lib.ListN.{length}
 use Rattle.std.specs.declared.result.Result.{Result}
 use Rattle.std.specs.declared.result.Result.the-variants.{Ok, Err}
@@ -14,6 +14,7 @@ use Rattle.reader.specs.Judgement.{Outcome, grammarIn}
 use Rattle.reader.specs.Judgement.Outcome.{sheet, fault}
 use Rattle.reader.specs.Views.{stateOf}
 use Rattle.reader.specs.declared.fault.Fault.{Fault}
+use Rattle.reader.specs.declared.rows.Span.{Span}
 use Rattle.sheet.specs.Kept.{empty}
 use Rattle.sheet.specs.Meaning.{Sheet-of, Plan-broken, setsIn, instructionsIn}
 use Rattle.sheet.specs.declared.counts.Counts.{Counts}
@@ -36,6 +37,9 @@ Means (Err f) text g = ((h : Grammar) → Sheet-of text h → ⊥) × ((p : Plan
 
 abbrev pub groupRule : Group → Rule
 groupRule g = record { left = g .production .left; right = g .production .right .now; equations = groupEquations g; plan = groupPlan g }
+
+abbrev pub sizeOf : Span → ℕ
+sizeOf s = s .end - s .start
 
 pub record Counted (c : Counts) (g : Grammar) : Type 0 where
   pub symbols-are : c .symbols ≡ length (g .symbols)

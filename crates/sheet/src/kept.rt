@@ -9,6 +9,6 @@ use reader::Tables;
 // A grammar with its plans that was accepted, or nothing: what it writes reads back as itself.
 #[derive(Drop)]
 pub struct Sheet {
-    tables: Tables,
+    pub(super) tables: Tables,
     ghost accepted: { sameGrammar (readBack (grammarIn (stateOf tables))) (grammarIn (stateOf tables)) ≡ true },
 }

@@ -1,14 +1,16 @@
 // What a sheet holds, by its model.
 ghost use mathlib.Core.Path.{_≡_};
 ghost use mathlib.Core.List.{map};
-ghost use Prim.Native.Nat.{ℕ};
+ghost use Prim.Native.Nat.{ℕ, _≤_};
+ghost use lib.ListN.{length};
 ghost use Rattle.std.specs.Options.{mapped};
 ghost use Rattle.std.specs.Orderings.{When};
 ghost use Rattle.std.specs.Slices.{found};
 ghost use Rattle.std.specs.shelf.Maps.{nth};
 ghost use Rattle.grammar.specs.Rows.{symbolOf};
 ghost use Rattle.plans.specs.Groups.{groupScope};
-ghost use Rattle.sheet.specs.Answers.{grammarOf, groupRule, Counted};
+ghost use Rattle.reader.specs.Views.{part};
+ghost use Rattle.sheet.specs.Answers.{grammarOf, groupRule, sizeOf, Counted};
 ghost use Rattle.sheet.specs.Kept.{empty};
 ghost use Rattle.sheet.specs.Meaning.{Sound};
 use super::counts::Counts;
@@ -16,6 +18,24 @@ use super::kept::Sheet;
 use grammar::Production;
 use grammar::SymbolRow;
 use plans::Group;
+use reader::Span;
+
+// The part of a table that a row names.
+fn part<T>(all: &[T], span: Span) -> &[T]
+    requires ordered { ⌜ span .start ≤ span .end ⌝ }
+    requires inside { ⌜ span .end ≤ length (now all) ⌝ }
+    ensures { λ r. ⌜ now r ≡ part span (now (all .entry)) ⌝ }
+{
+    let Span { start, end } = span;
+    &all[start..end]
+}
+
+fn size(span: Span) -> usize
+    requires { ⌜ span .start ≤ span .end ⌝ }
+    ensures { λ r. ⌜ r ≡ sizeOf span ⌝ }
+{
+    span.end - span.start
+}
 
 impl Sheet {
     // Whether no sheet was accepted. What was accepted meets every rule.
@@ -38,8 +58,8 @@ impl Sheet {
     {
         let row = self.tables.rules.get(number)?;
         let production = Production { symbols: &self.tables.symbols, left: row.left, right: row.right.as_slice() };
-        let equations = &self.tables.equations[row.equations.start..row.equations.end];
-        let plan = &self.tables.plan[row.plan.start..row.plan.end];
+        let equations = part(&self.tables.equations, row.equations);
+        let plan = part(&self.tables.plan, row.plan);
         Some(Group { production, equations, plan })
     }
 
@@ -50,8 +70,8 @@ impl Sheet {
         let mut sets = 0;
         let mut instructions = 0;
         for row in self.tables.rules.iter() {
-            sets += row.equations.end - row.equations.start;
-            instructions += row.plan.end - row.plan.start;
+            sets += size(row.equations);
+            instructions += size(row.plan);
         }
         Counts { symbols: self.tables.symbols.len(), rules: self.tables.rules.len(), sets, instructions }
     }
