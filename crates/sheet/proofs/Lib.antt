@@ -17,3 +17,4 @@ pub mod Acceptance
 pub mod Sameness
 pub mod Keeping
 pub mod Looking
+pub mod WorkedSheets

@@ -3,3 +3,4 @@ pub mod Meaning
 pub mod Same
 pub mod Kept
 pub mod Answers
+pub mod Worked
