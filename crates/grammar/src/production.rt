@@ -2,7 +2,7 @@
 ghost use mathlib.Core.Path.{_≡_};
 ghost use Prim.Native.Nat.{ℕ};
 ghost use lib.ListN.{length};
-ghost use Rattle.std.specs.Options.{mapped};
+ghost use Rattle.std.specs.Options.{isSome, mapped};
 ghost use Rattle.std.specs.shelf.Maps.{nth};
 ghost use Rattle.grammar.specs.Rows.{symbolOf};
 ghost use Rattle.grammar.specs.Scopes.{scopeOf, symbolAt, visitsAt, attributesAt, attributeAt, flows, definedFlow, takenFlow, defines, takes, argumentThere, argumentTaken, visitThere, instructionThere};
@@ -37,6 +37,26 @@ fn flows(attribute: Option<Attribute>, flow: Flow) -> bool
             },
         ) => matches!(flow, Flow::Synthesized),
         None => false,
+    }
+}
+
+// The flow of what a rule defines at an occurrence.
+fn defined_flow(occurrence: usize) -> Flow
+    ensures { λ r. ⌜ r ≡ definedFlow occurrence ⌝ }
+{
+    match occurrence {
+        0 => Flow::Synthesized,
+        _ => Flow::Inherited,
+    }
+}
+
+// The flow of what a rule takes from an occurrence.
+fn taken_flow(occurrence: usize) -> Flow
+    ensures { λ r. ⌜ r ≡ takenFlow occurrence ⌝ }
+{
+    match occurrence {
+        0 => Flow::Inherited,
+        _ => Flow::Synthesized,
     }
 }
 
@@ -90,24 +110,27 @@ impl<'a> Production<'a> {
     pub fn defines(&self, occurrence: usize, attribute: usize) -> bool
         ensures { λ r. ⌜ r ≡ defines (scopeOf (now (self .entry))) occurrence attribute ⌝ }
     {
-        let flow = if occurrence == 0 {
-            Flow::Synthesized
-        } else {
-            Flow::Inherited
-        };
-        flows(self.attribute(occurrence, attribute), flow)
+        flows(
+            self.attribute(occurrence, attribute),
+            defined_flow(occurrence),
+        )
     }
 
     // Whether an equation of the rule may take that attribute.
     pub fn takes(&self, occurrence: usize, attribute: usize) -> bool
         ensures { λ r. ⌜ r ≡ takes (scopeOf (now (self .entry))) occurrence attribute ⌝ }
     {
-        let flow = if occurrence == 0 {
-            Flow::Inherited
-        } else {
-            Flow::Synthesized
-        };
-        flows(self.attribute(occurrence, attribute), flow)
+        flows(
+            self.attribute(occurrence, attribute),
+            taken_flow(occurrence),
+        )
+    }
+
+    fn is_there(&self, occurrence: u16, attribute: u16) -> bool
+        ensures { λ r. ⌜ r ≡ isSome (attributeAt (scopeOf (now (self .entry))) occurrence attribute) ⌝ }
+    {
+        self.attribute(usize::from(occurrence), usize::from(attribute))
+            .is_some()
     }
 
     // Whether an argument names an attribute that is there.
@@ -116,7 +139,11 @@ impl<'a> Production<'a> {
     {
         match argument {
             Argument::Datum => true,
-            Argument::Of(occurrence, attribute) => self.attribute(usize::from(occurrence), usize::from(attribute)).is_some(),
+            Argument::Of(occurrence, attribute) => self.attribute(
+                    usize::from(occurrence),
+                    usize::from(attribute),
+                )
+                .is_some(),
         }
     }
 
@@ -126,7 +153,10 @@ impl<'a> Production<'a> {
     {
         match argument {
             Argument::Datum => true,
-            Argument::Of(occurrence, attribute) => self.takes(usize::from(occurrence), usize::from(attribute)),
+            Argument::Of(occurrence, attribute) => self.takes(
+                usize::from(occurrence),
+                usize::from(attribute),
+            ),
         }
     }
 
@@ -141,9 +171,15 @@ impl<'a> Production<'a> {
         ensures { λ r. ⌜ r ≡ instructionThere (scopeOf (now (self .entry))) instruction ⌝ }
     {
         match instruction {
-            Instruction::Evaluate(occurrence, attribute) => self.attribute(usize::from(occurrence), usize::from(attribute))
+            Instruction::Evaluate(occurrence, attribute) => self.attribute(
+                    usize::from(occurrence),
+                    usize::from(attribute),
+                )
                 .is_some(),
-            Instruction::Visit(occurrence, visit) => self.visit_there(usize::from(occurrence), visit),
+            Instruction::Visit(occurrence, visit) => self.visit_there(
+                usize::from(occurrence),
+                visit,
+            ),
             Instruction::Return(visit) => self.visit_there(0, visit),
         }
     }

@@ -76,6 +76,7 @@ set-room st e h = by (st .opened) h
     on true true later p q k = record { small = leb-true _ _ p; few = ltb-true _ _ q }
     on true false later p q k = absurd (grind arith)
     on false y later p q k = absurd (grind arith)
+
     by : (o : Option Open) → None ≡ onOpen o (λ p. failing (leb (e .function) 255 && ltb (st .sets) 512) Range (setFault (scopeIn st p) (p .equations) e)) → Room st e
     by None k = absurd (grind arith)
     by (Some p) k = on (leb (e .function) 255) (ltb (st .sets) 512) (setFault (scopeIn st p) (p .equations) e) refl refl k

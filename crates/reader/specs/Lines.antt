@@ -23,10 +23,10 @@ use Rattle.reader.specs.declared.lines.Key.the-variants.{OfSymbol, OfRule, OfS
 
 abbrev pub keyIn : List ℕ → Option Key
 keyIn name =
-  cond (sameBytes name (codes "symbol")) (Some OfSymbol)
-  (cond (sameBytes name (codes "rule")) (Some OfRule)
-  (cond (sameBytes name (codes "set")) (Some OfSet)
-  (cond (sameBytes name (codes "plan")) (Some OfPlan) None)))
+    cond (sameBytes name (codes "symbol")) (Some OfSymbol)
+    (cond (sameBytes name (codes "rule")) (Some OfRule)
+    (cond (sameBytes name (codes "set")) (Some OfSet)
+    (cond (sameBytes name (codes "plan")) (Some OfPlan) None)))
 
 -- a first word and the words behind it; the line's form comes before the number of words
 abbrev pub together : {X Y Z : Type 0} → (X → Y → Z) → Option X → Result Y Refusal → Result Z Refusal

@@ -74,14 +74,14 @@ failing false r later = Some r
 
 abbrev pub symbolFault : List Symbol → ℕ → List Attribute → Option Refusal
 symbolFault symbols v xs =
-  failing (between1 4 v && ltb (length symbols) 32) Range
-  (failing (every (λ x. between1 v (x .visit)) xs) Absent
-  (failing (starts symbols v xs) Start None))
+    failing (between1 4 v && ltb (length symbols) 32) Range
+    (failing (every (λ x. between1 v (x .visit)) xs) Absent
+    (failing (starts symbols v xs) Start None))
 
 abbrev pub ruleFault : ℕ → ℕ → ℕ → List ℕ → Option Refusal
 ruleFault symbols rules l rs =
-  failing (ltb rules 64) Range
-  (failing (every (λ x. ltb x symbols) (l ∷ rs)) Absent None)
+    failing (ltb rules 64) Range
+    (failing (every (λ x. ltb x symbols) (l ∷ rs)) Absent None)
 
 abbrev pub hasTarget : List Equation → ℕ → ℕ → Bool
 hasTarget es o a = some (λ e. targets e o a) es
@@ -89,9 +89,9 @@ hasTarget es o a = some (λ e. targets e o a) es
 -- what is wrong with an equation in a rule that has the equations es already
 abbrev pub setFault : Scope → List Equation → Equation → Option Refusal
 setFault σ es e =
-  failing (isSome (attributeAt σ (e .occurrence) (e .attribute)) && every (argumentThere σ) (e .arguments)) Absent
-  (failing (defines σ (e .occurrence) (e .attribute) && not (hasTarget es (e .occurrence) (e .attribute))) Target
-  (failing (every (argumentTaken σ) (e .arguments)) BadArgument None))
+    failing (isSome (attributeAt σ (e .occurrence) (e .attribute)) && every (argumentThere σ) (e .arguments)) Absent
+    (failing (defines σ (e .occurrence) (e .attribute) && not (hasTarget es (e .occurrence) (e .attribute))) Target
+    (failing (every (argumentTaken σ) (e .arguments)) BadArgument None))
 
 abbrev pub rightVisit : Instruction → Bool
 rightVisit (Evaluate o a) = true
@@ -105,10 +105,10 @@ complete σ es = everyBelow (λ o. everyBelow (λ a. not (defines σ o a) || has
 -- what is wrong with the plan of a rule that has the equations es
 abbrev pub planFault : Scope → List Equation → List Instruction → Option Refusal
 planFault σ es is =
-  failing (every rightVisit is) Range
-  (failing (every (instructionThere σ) is) Absent
-  (failing (complete σ es) Target
-  (mapped Plan (firstBroken σ es is))))
+    failing (every rightVisit is) Range
+    (failing (every (instructionThere σ) is) Absent
+    (failing (complete σ es) Target
+    (mapped Plan (firstBroken σ es is))))
 
 abbrev pub scopeIn : State → Open → Scope
 scopeIn st o = record { symbols = st .symbols; occurrences = o .left ∷ o .right }
@@ -122,9 +122,9 @@ abbrev pub faultOf : State → Line → Option Refusal
 faultOf st (symbolLine v xs) = symbolFault (st .symbols) v xs
 faultOf st (ruleLine l rs) = ruleFault (length (st .symbols)) (length (st .rules)) l rs
 faultOf st (setLine e) =
-  onOpen (st .opened) (λ o. failing (leb (e .function) 255 && ltb (st .sets) 512) Range (setFault (scopeIn st o) (o .equations) e))
+    onOpen (st .opened) (λ o. failing (leb (e .function) 255 && ltb (st .sets) 512) Range (setFault (scopeIn st o) (o .equations) e))
 faultOf st (planLine is) =
-  onOpen (st .opened) (λ o. failing (leb (st .steps + length is) 1024) Range (planFault (scopeIn st o) (o .equations) is))
+    onOpen (st .opened) (λ o. failing (leb (st .steps + length is) 1024) Range (planFault (scopeIn st o) (o .equations) is))
 
 abbrev pub addTo : Equation → Open → Open
 addTo e o = record { left = o .left; right = o .right; equations = o .equations ++ e ∷ [] }

@@ -51,7 +51,7 @@ stateOf t = record {
   rules = rulesOf t;
   opened = mapped (openOf (vec-items (t .equations))) (t .opened);
   sets = vec-len (t .equations);
-  steps = vec-len (t .plan)
+  steps = vec-len (t .plan);
 }
 
 -- the tables after a step; what they hold after a refusal is left open, since the whole sheet is emptied then

@@ -15,11 +15,11 @@ ghost use Rattle.plans.specs.Groups.{groupScope, groupEquations, groupPlan};
 ghost use Rattle.reader.specs.Judgement.{onLine};
 ghost use Rattle.reader.specs.Lines.{planIn};
 ghost use Rattle.reader.specs.Views.{stateOf, openScope, Stepped};
-use super::checks::every;
 use super::checks::InstructionThere;
 use super::checks::InstructionThereCheck;
 use super::checks::RightVisit;
 use super::checks::RightVisitCheck;
+use super::checks::every;
 use super::rows::Opened;
 use super::rows::RuleRow;
 use super::rows::Span;
@@ -104,11 +104,26 @@ fn plan_fault(group: &Group<'_>) -> Option<Refusal>
 }
 
 // What is wrong with the plan of the rule that is open.
-fn open_fault<'a>(symbols: &'a [SymbolRow], open: &'a Opened, equations: &'a [EquationRow], plan: &'a [Instruction]) -> Option<Refusal>
+fn open_fault<'a>(
+    symbols: &'a [SymbolRow],
+    open: &'a Opened,
+    equations: &'a [EquationRow],
+    plan: &'a [Instruction],
+) -> Option<Refusal>
     ensures { λ r. ⌜ r ≡ planFault (openScope (now (symbols .entry)) (now («open» .entry))) (map equationOf (now (equations .entry))) (now (plan .entry)) ⌝ }
 {
-    let production = Production { symbols, left: open.left, right: open.right.as_slice() };
-    plan_fault(&Group { production, equations, plan })
+    let production = Production {
+        symbols,
+        left: open.left,
+        right: open.right.as_slice(),
+    };
+    plan_fault(
+        &Group {
+            production,
+            equations,
+            plan,
+        },
+    )
 }
 
 impl Tables {
@@ -120,13 +135,29 @@ impl Tables {
         };
         let before = self.plan.len();
         read_plan(words, &mut self.plan)?;
-        match open_fault(&self.symbols, &open, &self.equations[open.start..], &self.plan[before..]) {
+        match open_fault(
+            &self.symbols,
+            &open,
+            &self.equations[open.start..],
+            &self.plan[before..],
+        ) {
             Some(refusal) => Err(refusal),
             None => {
                 let Opened { left, right, start } = open;
-                let equations = Span { start, end: self.equations.len() };
-                let plan = Span { start: before, end: self.plan.len() };
-                self.rules.push_reserved(RuleRow { left, right, equations, plan });
+                let equations = Span {
+                    start,
+                    end: self.equations.len(),
+                };
+                let plan = Span {
+                    start: before,
+                    end: self.plan.len(),
+                };
+                self.rules.push_reserved(RuleRow {
+                    left,
+                    right,
+                    equations,
+                    plan,
+                });
                 Ok(())
             }
         }

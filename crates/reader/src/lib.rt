@@ -9,6 +9,5 @@ mod steps;
 mod tables;
 
 pub use fault::Fault;
-
 pub use rows::Span;
 pub use tables::Tables;

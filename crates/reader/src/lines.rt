@@ -74,7 +74,10 @@ pub fn symbol(mut words: Words<'_>) -> Result<SymbolRow, Refusal>
     let Some(visits) = first.word.number() else {
         return Err(Refusal::LineForm);
     };
-    Ok(SymbolRow { visits, attributes: Few::read(words)? })
+    Ok(SymbolRow {
+        visits,
+        attributes: Few::read(words)?,
+    })
 }
 
 pub fn rule(mut words: Words<'_>) -> Result<RuleWords, Refusal>
@@ -86,7 +89,10 @@ pub fn rule(mut words: Words<'_>) -> Result<RuleWords, Refusal>
     let Some(left) = first.word.number() else {
         return Err(Refusal::LineForm);
     };
-    Ok(RuleWords { left, right: Few::read(words)? })
+    Ok(RuleWords {
+        left,
+        right: Few::read(words)?,
+    })
 }
 
 pub fn equation(mut words: Words<'_>) -> Result<SetWords, Refusal>
@@ -104,5 +110,10 @@ pub fn equation(mut words: Words<'_>) -> Result<SetWords, Refusal>
     let Some(function) = second.word.number() else {
         return Err(Refusal::LineForm);
     };
-    Ok(SetWords { occurrence, attribute, function, arguments: Few::read(words)? })
+    Ok(SetWords {
+        occurrence,
+        attribute,
+        function,
+        arguments: Few::read(words)?,
+    })
 }

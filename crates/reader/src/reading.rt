@@ -12,10 +12,10 @@ use super::fault::Fault;
 use super::lines::Key;
 use super::tables::Tables;
 use grammar::Refusal;
-use words::cut;
 use words::Line;
 use words::Word;
 use words::Words;
+use words::cut;
 
 impl Tables {
     // The words behind a key.
@@ -51,11 +51,17 @@ impl Tables {
         ensures { λ r. ⌜ LineRead r (judgeLine (stateOf (now (self .entry))) (now (text .entry))) number (now (self .exit)) ⌝ }
     {
         let Some(Line { key, words }) = Line::new(text, number) else {
-            return Err(Fault { refusal: Refusal::LineForm, line: number });
+            return Err(Fault {
+                refusal: Refusal::LineForm,
+                line: number,
+            });
         };
         match self.read_keyed(key.word, words) {
             Ok(()) => Ok(()),
-            Err(refusal) => Err(Fault { refusal, line: key.line }),
+            Err(refusal) => Err(Fault {
+                refusal,
+                line: key.line,
+            }),
         }
     }
 
@@ -72,10 +78,16 @@ impl Tables {
             at += 1;
         }
         if !rest.is_empty() {
-            return Err(Fault { refusal: Refusal::LineForm, line: at });
+            return Err(Fault {
+                refusal: Refusal::LineForm,
+                line: at,
+            });
         }
         if !self.is_whole() {
-            return Err(Fault { refusal: Refusal::LineForm, line: at });
+            return Err(Fault {
+                refusal: Refusal::LineForm,
+                line: at,
+            });
         }
         Ok(())
     }
@@ -93,7 +105,10 @@ impl Tables {
     {
         self.clear();
         if text.is_empty() || text.len() > 32768 {
-            return Err(Fault { refusal: Refusal::Length, line: 0 });
+            return Err(Fault {
+                refusal: Refusal::Length,
+                line: 0,
+            });
         }
         match self.read_lines(text) {
             Ok(()) => Ok(()),

@@ -20,7 +20,6 @@ ghost use Rattle.grammar.specs.Rows.{symbolOf, equationOf};
 ghost use Rattle.grammar.specs.Tests.{every};
 ghost use Rattle.reader.specs.Judgement.{onLine};
 ghost use Rattle.reader.specs.Views.{stateOf, Stepped};
-use super::checks::every;
 use super::checks::ArgumentTaken;
 use super::checks::ArgumentTakenCheck;
 use super::checks::ArgumentThere;
@@ -32,12 +31,13 @@ use super::checks::Synthesizes;
 use super::checks::SynthesizesCheck;
 use super::checks::VisitWithin;
 use super::checks::VisitWithinCheck;
+use super::checks::every;
 use super::lines::Key;
+use super::lines::RuleWords;
+use super::lines::SetWords;
 use super::lines::equation;
 use super::lines::rule;
 use super::lines::symbol;
-use super::lines::RuleWords;
-use super::lines::SetWords;
 use super::rows::Opened;
 use super::tables::Tables;
 use grammar::EquationRow;
@@ -56,7 +56,13 @@ impl Tables {
         let rules = Vec::with_capacity(heap, 64)?;
         let equations = Vec::with_capacity(heap, 512)?;
         let plan = Vec::with_capacity(heap, 1024)?;
-        Ok(Tables { symbols, rules, equations, plan, opened: None })
+        Ok(Tables {
+            symbols,
+            rules,
+            equations,
+            plan,
+            opened: None,
+        })
     }
 
     pub fn clear(&mut self)
@@ -130,7 +136,8 @@ impl Tables {
     fn starts(&self, symbol: &SymbolRow) -> bool
         ensures { λ r. ⌜ r ≡ starts (stateOf (now (self .entry)) .symbols) (symbolOf (now (symbol .entry)) .visits) (symbolOf (now (symbol .entry)) .attributes) ⌝ }
     {
-        self.has_symbols() || symbol.visits == 1 && every(&Synthesizes, symbol.attributes.as_slice())
+        self.has_symbols()
+            || symbol.visits == 1 && every(&Synthesizes, symbol.attributes.as_slice())
     }
 
     pub(super) fn add_symbol(&mut self, words: Words<'_>) -> Result<(), Refusal>
@@ -167,7 +174,11 @@ impl Tables {
             Some(refusal) => Err(refusal),
             None => {
                 let RuleWords { left, right } = row;
-                self.opened = Some(Opened { left, right, start: self.equations.len() });
+                self.opened = Some(Opened {
+                    left,
+                    right,
+                    start: self.equations.len(),
+                });
                 Ok(())
             }
         }
@@ -183,7 +194,11 @@ impl Tables {
         if set.function > 255 || self.equations.len() >= 512 {
             return Some(Refusal::Range);
         }
-        let production = Production { symbols: &self.symbols, left: open.left, right: open.right.as_slice() };
+        let production = Production {
+            symbols: &self.symbols,
+            left: open.left,
+            right: open.right.as_slice(),
+        };
         equation_fault(production, &self.equations[open.start..], set)
     }
 
@@ -194,9 +209,19 @@ impl Tables {
         match self.set_fault(&set) {
             Some(refusal) => Err(refusal),
             None => {
-                let SetWords { occurrence, attribute, function, arguments } = set;
+                let SetWords {
+                    occurrence,
+                    attribute,
+                    function,
+                    arguments,
+                } = set;
                 let function = function as u8;
-                self.equations.push_reserved(EquationRow { occurrence, attribute, function, arguments });
+                self.equations.push_reserved(EquationRow {
+                    occurrence,
+                    attribute,
+                    function,
+                    arguments,
+                });
                 Ok(())
             }
         }
@@ -206,7 +231,9 @@ impl Tables {
 fn visits_there(symbol: &SymbolRow) -> bool
     ensures { λ r. ⌜ r ≡ every (λ x. between1 (symbolOf (now (symbol .entry)) .visits) (x .visit)) (symbolOf (now (symbol .entry)) .attributes) ⌝ }
 {
-    let within = VisitWithin { visits: symbol.visits };
+    let within = VisitWithin {
+        visits: symbol.visits,
+    };
     every(&within, symbol.attributes.as_slice())
 }
 
@@ -235,7 +262,11 @@ pub(super) fn has_target(equations: &[EquationRow], occurrence: usize, attribute
 }
 
 // What is wrong with an equation in a rule that has some already.
-fn equation_fault(production: Production<'_>, equations: &[EquationRow], set: &SetWords) -> Option<Refusal>
+fn equation_fault(
+    production: Production<'_>,
+    equations: &[EquationRow],
+    set: &SetWords,
+) -> Option<Refusal>
     ensures { λ r. ⌜ r ≡ setFault (scopeOf (production .entry)) (map equationOf (now (equations .entry))) (setOf (now (set .entry))) ⌝ }
 {
     let arguments = set.arguments.as_slice();

@@ -111,10 +111,10 @@ module _ (tells : Tests-tell) (ss : List Symbol) (few : length ss ≤ 32) (some 
       runs-more (state ss rules None n k) (ruleLine (r .left) (r .right)) (rule-small (length ss) (r .left) (r .right) few (h .left-there) (h .few-right) (h .right-there)) (and-from _ _ (not-empty ss some) refl)
       (rule-passes (length ss) (length rules) (r .left) (r .right) (record { room = room; left-there = h .left-there; right-there = h .right-there }))
       (runs-append (map setLine (r .equations)) (planLine (r .plan) ∷ [])
-        (sets-run ss sound rules (r .left) (r .right) (h .few-right) (r .equations) (sound-apart ss r h) k m lm (r .equations) [] n refl cm (h .equations-sound))
-        (runs-more (state ss rules (Some (opened (r .left) (r .right) (r .equations))) m k) (planLine (r .plan)) (plan-small (scopeOf-rule ss r) sound five (r .plan) (some-plan ss r h) (h .instructions-there)) refl
-          (plan-passes tells (scopeOf-rule ss r) (r .equations) k (r .plan) (record { room = omega arith; instructions-there = h .instructions-there; all-defined = sound-complete ss r h; planned = h .planned }))
-          (subst (λ i. Runs (state ss (rules ++ r ∷ []) None m (k + length (r .plan))) [] (state ss (rules ++ r ∷ []) None m i)) cj done)))
+      (sets-run ss sound rules (r .left) (r .right) (h .few-right) (r .equations) (sound-apart ss r h) k m lm (r .equations) [] n refl cm (h .equations-sound))
+      (runs-more (state ss rules (Some (opened (r .left) (r .right) (r .equations))) m k) (planLine (r .plan)) (plan-small (scopeOf-rule ss r) sound five (r .plan) (some-plan ss r h) (h .instructions-there)) refl
+      (plan-passes tells (scopeOf-rule ss r) (r .equations) k (r .plan) (record { room = omega arith; instructions-there = h .instructions-there; all-defined = sound-complete ss r h; planned = h .planned }))
+      (subst (λ i. Runs (state ss (rules ++ r ∷ []) None m (k + length (r .plan))) [] (state ss (rules ++ r ∷ []) None m i)) cj done)))
     where
       five : length (r .left ∷ r .right) ≤ 5
       five = let z = h .few-right in omega arith

@@ -43,6 +43,7 @@ looked-empty t r h e = by r (sym e) (empty-or-sound (grammarIn (stateOf t)) h)
   where
     none : (k : grammarIn (stateOf t) ≡ empty) → vec-len (t .rules) ≡ 0
     none k = t .rules .ok .0 ∙ sym (length-map (vec-items (t .rules)) (ruleOf (vec-items (t .equations)) (vec-items (t .plan)))) ∙ ap (λ g. length (g .rules)) k
+
     by : (b : Bool) → eqb (vec-len (t .rules)) 0 ≡ b → (grammarIn (stateOf t) ≡ empty) ⊎ Sound (grammarIn (stateOf t)) → When b (grammarIn (stateOf t) ≡ empty) (Sound (grammarIn (stateOf t)))
     by true z c = ⊎-elim (λ k. k) (λ s. absurd (omega (arith, eqb-true (vec-len (t .rules)) 0 z, s .some-rule, length-map (vec-items (t .rules)) (ruleOf (vec-items (t .equations)) (vec-items (t .plan))), t .rules .ok .0))) c
     by false z c = ⊎-elim (λ k. absurd (eqb-false (vec-len (t .rules)) 0 z (none k))) (λ s. s) c
@@ -90,8 +91,7 @@ rows-sizes es is n m en em [] h = (refl, refl)
 rows-sizes es is n m en em (r ∷ rows) h =
     let p = and-parts (rowFits n m r) (every (rowFits n m) rows) h in
     let q = row-size es is n m r en em (p .0) in
-    let k = rows-sizes es is n m en em rows (p .1) in
-    (
+    let k = rows-sizes es is n m en em rows (p .1) in (
       sumBy-cons (λ x. length (x .equations)) (ruleOf es is r) (map (ruleOf es is) rows) ∙ (λ i. q .0 i + k .0 i) ∙ sym (sumBy-cons (λ x. sizeOf (x .equations)) r rows),
       sumBy-cons (λ x. length (x .plan)) (ruleOf es is r) (map (ruleOf es is) rows) ∙ (λ i. q .1 i + k .1 i) ∙ sym (sumBy-cons (λ x. sizeOf (x .plan)) r rows),
     )

@@ -253,18 +253,18 @@ plan-refused tells text p n e = by (longEnough (length text)) e
         let k = runs-keep tells nothing (t .lines) (t .here) (t .runs) sofar-nothing in
         let before = linesOf (grammarIn (t .here)) in
         let lines : before ++ groupOf (ruleWith (t .plan) (f .0)) ≡ t .lines ++ planLine (t .plan) ∷ [] =
-            sym (append-assoc before (openLines (Some (f .0))) (planLine (t .plan) ∷ []))
-            ∙ ap (λ o. (before ++ openLines o) ++ planLine (t .plan) ∷ []) (sym (f .1))
-            ∙ ap (λ ls. ls ++ planLine (t .plan) ∷ []) (k .1) in
+        sym (append-assoc before (openLines (Some (f .0))) (planLine (t .plan) ∷ []))
+        ∙ ap (λ o. (before ++ openLines o) ++ planLine (t .plan) ∷ []) (sym (f .1))
+        ∙ ap (λ ls. ls ++ planLine (t .plan) ∷ []) (k .1) in
         record {
           before = grammarIn (t .here);
           rule = ruleWith (t .plan) (f .0);
           rest = t .rest;
           begins =
-            t .written
-            ∙ sym (append-assoc (joined ended (t .lines)) (ended (planLine (t .plan))) (t .rest))
-            ∙ ap (λ bs. bs ++ t .rest) (joined-more ended [] (t .lines) (planLine (t .plan)))
-            ∙ ap (λ ls. joined ended ls ++ t .rest) (sym lines);
+              t .written
+              ∙ sym (append-assoc (joined ended (t .lines)) (ended (planLine (t .plan))) (t .rest))
+              ∙ ap (λ bs. bs ++ t .rest) (joined-more ended [] (t .lines) (planLine (t .plan)))
+              ∙ ap (λ ls. joined ended ls ++ t .rest) (sym lines);
           at-line = let at = t .at-line in omega (arith, ap length lines ∙ length-push (t .lines) (planLine (t .plan)));
           broken = subst (FirstBroken (scopeHere (t .here .symbols) (f .0)) (f .0 .equations) (t .plan)) (f .2) (first-broken tells (scopeHere (t .here .symbols) (f .0)) (f .0 .equations) (t .plan));
         }

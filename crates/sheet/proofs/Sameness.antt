@@ -100,27 +100,27 @@ symbols = record {
 equations : Tells sameEquation
 equations = record {
   sound = λ x y h.
-    let p = and-parts (eqb (x .occurrence) (y .occurrence) && eqb (x .attribute) (y .attribute)) (eqb (x .function) (y .function) && sameList sameArgument (x .arguments) (y .arguments)) h in
-    let q = and-parts (eqb (x .occurrence) (y .occurrence)) (eqb (x .attribute) (y .attribute)) (p .0) in
-    let r = and-parts (eqb (x .function) (y .function)) (sameList sameArgument (x .arguments) (y .arguments)) (p .1) in
-    λ i. record { occurrence = eqb-true _ _ (q .0) i; attribute = eqb-true _ _ (q .1) i; function = eqb-true _ _ (r .0) i; arguments = lists sameArgument arguments .sound (x .arguments) (y .arguments) (r .1) i };
+      let p = and-parts (eqb (x .occurrence) (y .occurrence) && eqb (x .attribute) (y .attribute)) (eqb (x .function) (y .function) && sameList sameArgument (x .arguments) (y .arguments)) h in
+      let q = and-parts (eqb (x .occurrence) (y .occurrence)) (eqb (x .attribute) (y .attribute)) (p .0) in
+      let r = and-parts (eqb (x .function) (y .function)) (sameList sameArgument (x .arguments) (y .arguments)) (p .1) in
+      λ i. record { occurrence = eqb-true _ _ (q .0) i; attribute = eqb-true _ _ (q .1) i; function = eqb-true _ _ (r .0) i; arguments = lists sameArgument arguments .sound (x .arguments) (y .arguments) (r .1) i };
   itself = λ x. and-from _ _ (and-from _ _ (numbers .itself (x .occurrence)) (numbers .itself (x .attribute))) (and-from _ _ (numbers .itself (x .function)) (lists sameArgument arguments .itself (x .arguments)));
 }
 
 rules : Tells sameRule
 rules = record {
   sound = λ x y h.
-    let p = and-parts (eqb (x .left) (y .left) && sameList eqb (x .right) (y .right)) (sameList sameEquation (x .equations) (y .equations) && sameList sameInstruction (x .plan) (y .plan)) h in
-    let q = and-parts (eqb (x .left) (y .left)) (sameList eqb (x .right) (y .right)) (p .0) in
-    let r = and-parts (sameList sameEquation (x .equations) (y .equations)) (sameList sameInstruction (x .plan) (y .plan)) (p .1) in
-    λ i. record { left = eqb-true _ _ (q .0) i; right = lists eqb numbers .sound (x .right) (y .right) (q .1) i; equations = lists sameEquation equations .sound (x .equations) (y .equations) (r .0) i; plan = lists sameInstruction instructions .sound (x .plan) (y .plan) (r .1) i };
+      let p = and-parts (eqb (x .left) (y .left) && sameList eqb (x .right) (y .right)) (sameList sameEquation (x .equations) (y .equations) && sameList sameInstruction (x .plan) (y .plan)) h in
+      let q = and-parts (eqb (x .left) (y .left)) (sameList eqb (x .right) (y .right)) (p .0) in
+      let r = and-parts (sameList sameEquation (x .equations) (y .equations)) (sameList sameInstruction (x .plan) (y .plan)) (p .1) in
+      λ i. record { left = eqb-true _ _ (q .0) i; right = lists eqb numbers .sound (x .right) (y .right) (q .1) i; equations = lists sameEquation equations .sound (x .equations) (y .equations) (r .0) i; plan = lists sameInstruction instructions .sound (x .plan) (y .plan) (r .1) i };
   itself = λ x. and-from _ _ (and-from _ _ (numbers .itself (x .left)) (lists eqb numbers .itself (x .right))) (and-from _ _ (lists sameEquation equations .itself (x .equations)) (lists sameInstruction instructions .itself (x .plan)));
 }
 
 pub grammars : Tells sameGrammar
 grammars = record {
   sound = λ x y h.
-    let p = and-parts (sameList sameSymbol (x .symbols) (y .symbols)) (sameList sameRule (x .rules) (y .rules)) h in
-    λ i. record { symbols = lists sameSymbol symbols .sound (x .symbols) (y .symbols) (p .0) i; rules = lists sameRule rules .sound (x .rules) (y .rules) (p .1) i };
+      let p = and-parts (sameList sameSymbol (x .symbols) (y .symbols)) (sameList sameRule (x .rules) (y .rules)) h in
+      λ i. record { symbols = lists sameSymbol symbols .sound (x .symbols) (y .symbols) (p .0) i; rules = lists sameRule rules .sound (x .rules) (y .rules) (p .1) i };
   itself = λ x. and-from _ _ (lists sameSymbol symbols .itself (x .symbols)) (lists sameRule rules .itself (x .rules));
 }

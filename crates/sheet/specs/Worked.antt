@@ -22,21 +22,21 @@ text ls = joined (λ l. l ++ 10 ∷ []) ls
 -- a start above a tree of items: lines 1 to 14
 abbrev pub blocks : List (List ℕ)
 blocks =
-  codes "symbol=1 S1"
-  ∷ codes "symbol=2 S1 I2 I2 S2"
-  ∷ codes "rule=0 1"
-  ∷ codes "set=0.0 1 1.3"
-  ∷ codes "set=1.1 0"
-  ∷ codes "set=1.2 6"
-  ∷ codes "plan=v1.1 e1.1 e1.2 v1.2 e0.0 r1"
-  ∷ codes "rule=1 1 1"
-  ∷ codes "set=0.0 4 1.0 2.0"
-  ∷ codes "set=0.3 1 2.3"
-  ∷ codes "set=1.1 1 0.1"
-  ∷ codes "set=1.2 4 2.0 0.2"
-  ∷ codes "set=2.1 1 1.3"
-  ∷ codes "set=2.2 1 0.2"
-  ∷ []
+    codes "symbol=1 S1"
+    ∷ codes "symbol=2 S1 I2 I2 S2"
+    ∷ codes "rule=0 1"
+    ∷ codes "set=0.0 1 1.3"
+    ∷ codes "set=1.1 0"
+    ∷ codes "set=1.2 6"
+    ∷ codes "plan=v1.1 e1.1 e1.2 v1.2 e0.0 r1"
+    ∷ codes "rule=1 1 1"
+    ∷ codes "set=0.0 4 1.0 2.0"
+    ∷ codes "set=0.3 1 2.3"
+    ∷ codes "set=1.1 1 0.1"
+    ∷ codes "set=1.2 4 2.0 0.2"
+    ∷ codes "set=2.1 1 1.3"
+    ∷ codes "set=2.2 1 0.2"
+    ∷ []
 
 -- an item: lines 16 to 18
 abbrev pub item : List (List ℕ)
@@ -56,43 +56,43 @@ unreturnedText = text (blocks ++ codes "plan=v1.1 v2.1 e0.0 r1 e1.1 e1.2 v1.2 e2
 abbrev pub day : Grammar
 day = record {
   symbols =
-    record { visits = 1; attributes = record { flow = Synthesized; visit = 1 } ∷ [] }
-    ∷ record { visits = 2; attributes = record { flow = Synthesized; visit = 1 } ∷ record { flow = Inherited; visit = 2 } ∷ record { flow = Inherited; visit = 2 } ∷ record { flow = Synthesized; visit = 2 } ∷ [] }
-    ∷ [];
+      record { visits = 1; attributes = record { flow = Synthesized; visit = 1 } ∷ [] }
+      ∷ record { visits = 2; attributes = record { flow = Synthesized; visit = 1 } ∷ record { flow = Inherited; visit = 2 } ∷ record { flow = Inherited; visit = 2 } ∷ record { flow = Synthesized; visit = 2 } ∷ [] }
+      ∷ [];
   rules =
-    record {
-      left = 0;
-      right = 1 ∷ [];
-      equations =
-        record { occurrence = 0; attribute = 0; function = 1; arguments = Of 1 3 ∷ [] }
-        ∷ record { occurrence = 1; attribute = 1; function = 0; arguments = [] }
-        ∷ record { occurrence = 1; attribute = 2; function = 6; arguments = [] }
-        ∷ [];
-      plan = Visit 1 1 ∷ Evaluate 1 1 ∷ Evaluate 1 2 ∷ Visit 1 2 ∷ Evaluate 0 0 ∷ Return 1 ∷ []
-    }
-    ∷ record {
-      left = 1;
-      right = 1 ∷ 1 ∷ [];
-      equations =
-        record { occurrence = 0; attribute = 0; function = 4; arguments = Of 1 0 ∷ Of 2 0 ∷ [] }
-        ∷ record { occurrence = 0; attribute = 3; function = 1; arguments = Of 2 3 ∷ [] }
-        ∷ record { occurrence = 1; attribute = 1; function = 1; arguments = Of 0 1 ∷ [] }
-        ∷ record { occurrence = 1; attribute = 2; function = 4; arguments = Of 2 0 ∷ Of 0 2 ∷ [] }
-        ∷ record { occurrence = 2; attribute = 1; function = 1; arguments = Of 1 3 ∷ [] }
-        ∷ record { occurrence = 2; attribute = 2; function = 1; arguments = Of 0 2 ∷ [] }
-        ∷ [];
-      plan = Visit 1 1 ∷ Visit 2 1 ∷ Evaluate 0 0 ∷ Return 1 ∷ Evaluate 1 1 ∷ Evaluate 1 2 ∷ Visit 1 2 ∷ Evaluate 2 1 ∷ Evaluate 2 2 ∷ Visit 2 2 ∷ Evaluate 0 3 ∷ Return 2 ∷ []
-    }
-    ∷ record {
-      left = 1;
-      right = [];
-      equations =
-        record { occurrence = 0; attribute = 0; function = 1; arguments = Datum ∷ [] }
-        ∷ record { occurrence = 0; attribute = 3; function = 3; arguments = Of 0 1 ∷ Datum ∷ [] }
-        ∷ [];
-      plan = Evaluate 0 0 ∷ Return 1 ∷ Evaluate 0 3 ∷ Return 2 ∷ []
-    }
-    ∷ []
+      record {
+        left = 0;
+        right = 1 ∷ [];
+        equations =
+            record { occurrence = 0; attribute = 0; function = 1; arguments = Of 1 3 ∷ [] }
+            ∷ record { occurrence = 1; attribute = 1; function = 0; arguments = [] }
+            ∷ record { occurrence = 1; attribute = 2; function = 6; arguments = [] }
+            ∷ [];
+        plan = Visit 1 1 ∷ Evaluate 1 1 ∷ Evaluate 1 2 ∷ Visit 1 2 ∷ Evaluate 0 0 ∷ Return 1 ∷ [];
+      }
+      ∷ record {
+        left = 1;
+        right = 1 ∷ 1 ∷ [];
+        equations =
+            record { occurrence = 0; attribute = 0; function = 4; arguments = Of 1 0 ∷ Of 2 0 ∷ [] }
+            ∷ record { occurrence = 0; attribute = 3; function = 1; arguments = Of 2 3 ∷ [] }
+            ∷ record { occurrence = 1; attribute = 1; function = 1; arguments = Of 0 1 ∷ [] }
+            ∷ record { occurrence = 1; attribute = 2; function = 4; arguments = Of 2 0 ∷ Of 0 2 ∷ [] }
+            ∷ record { occurrence = 2; attribute = 1; function = 1; arguments = Of 1 3 ∷ [] }
+            ∷ record { occurrence = 2; attribute = 2; function = 1; arguments = Of 0 2 ∷ [] }
+            ∷ [];
+        plan = Visit 1 1 ∷ Visit 2 1 ∷ Evaluate 0 0 ∷ Return 1 ∷ Evaluate 1 1 ∷ Evaluate 1 2 ∷ Visit 1 2 ∷ Evaluate 2 1 ∷ Evaluate 2 2 ∷ Visit 2 2 ∷ Evaluate 0 3 ∷ Return 2 ∷ [];
+      }
+      ∷ record {
+        left = 1;
+        right = [];
+        equations =
+            record { occurrence = 0; attribute = 0; function = 1; arguments = Datum ∷ [] }
+            ∷ record { occurrence = 0; attribute = 3; function = 3; arguments = Of 0 1 ∷ Datum ∷ [] }
+            ∷ [];
+        plan = Evaluate 0 0 ∷ Return 1 ∷ Evaluate 0 3 ∷ Return 2 ∷ [];
+      }
+      ∷ [];
 }
 
 pub record Worked-sheets : Type 0 where

@@ -48,7 +48,7 @@ impl Sheet {
     pub fn symbols(&self) -> &[SymbolRow]
         ensures { λ r. ⌜ map symbolOf (now r) ≡ grammarOf (now (self .entry)) .symbols ⌝ }
     {
-        &self.tables.symbols
+        self.tables.symbols.as_slice()
     }
 
     // A rule with its equations and its plan.
@@ -57,10 +57,18 @@ impl Sheet {
         ensures symbols { λ r. ⌜ found r (λ g. groupScope g .symbols ≡ grammarOf (now (self .entry)) .symbols) ⌝ }
     {
         let row = self.tables.rules.get(number)?;
-        let production = Production { symbols: &self.tables.symbols, left: row.left, right: row.right.as_slice() };
+        let production = Production {
+            symbols: &self.tables.symbols,
+            left: row.left,
+            right: row.right.as_slice(),
+        };
         let equations = part(&self.tables.equations, row.equations);
         let plan = part(&self.tables.plan, row.plan);
-        Some(Group { production, equations, plan })
+        Some(Group {
+            production,
+            equations,
+            plan,
+        })
     }
 
     // How much the sheet holds.
@@ -73,6 +81,11 @@ impl Sheet {
             sets += size(row.equations);
             instructions += size(row.plan);
         }
-        Counts { symbols: self.tables.symbols.len(), rules: self.tables.rules.len(), sets, instructions }
+        Counts {
+            symbols: self.tables.symbols.len(),
+            rules: self.tables.rules.len(),
+            sets,
+            instructions,
+        }
     }
 }

@@ -78,8 +78,16 @@ impl Verdict {
 fn counted(heap: Global, counts: Counts) -> Result<String, AllocError>
     ensures { λ r. ⌜ made r (λ t. string-bytes t ≡ detailText (Verdict.Accepted counts)) ⌝ }
 {
-    let Counts { symbols, rules, sets, instructions } = counts;
-    format!(heap, "symbols={symbols} rules={rules} sets={sets} instructions={instructions}")
+    let Counts {
+        symbols,
+        rules,
+        sets,
+        instructions,
+    } = counts;
+    format!(
+        heap,
+        "symbols={symbols} rules={rules} sets={sets} instructions={instructions}"
+    )
 }
 
 fn layer_name(layer: Layer) -> &'static str
@@ -118,12 +126,18 @@ fn plan_sentence(rule: PlanRule) -> &'static str
     ensures { λ r. ⌜ now r ≡ planSentence rule ⌝ }
 {
     match rule {
-        PlanRule::ReturnsInOrder => "The returns of this plan are not r1 up to the last visit of the rule's left symbol, in order, with the last one at the end.",
-        PlanRule::OneEvaluation => "An attribute that the rule defines is not evaluated exactly once in this plan, or another one is evaluated.",
-        PlanRule::VisitsInOrder => "The visits to some right occurrence do not all stand in this plan once each, in order.",
-        PlanRule::InheritedBeforeVisit => "A visit stands in this plan before the evaluation of an inherited attribute that goes down with it.",
-        PlanRule::SynthesizedBeforeReturn => "A return stands in this plan before the evaluation of a synthesized attribute that goes up with it.",
-        PlanRule::ArgumentsFirst => "An evaluation stands in this plan before the visit that gives one of its arguments, or in an earlier segment than the argument's.",
+        PlanRule::ReturnsInOrder =>
+            "The returns of this plan are not r1 up to the last visit of the rule's left symbol, in order, with the last one at the end.",
+        PlanRule::OneEvaluation =>
+            "An attribute that the rule defines is not evaluated exactly once in this plan, or another one is evaluated.",
+        PlanRule::VisitsInOrder =>
+            "The visits to some right occurrence do not all stand in this plan once each, in order.",
+        PlanRule::InheritedBeforeVisit =>
+            "A visit stands in this plan before the evaluation of an inherited attribute that goes down with it.",
+        PlanRule::SynthesizedBeforeReturn =>
+            "A return stands in this plan before the evaluation of a synthesized attribute that goes up with it.",
+        PlanRule::ArgumentsFirst =>
+            "An evaluation stands in this plan before the visit that gives one of its arguments, or in an earlier segment than the argument's.",
     }
 }
 
@@ -132,12 +146,18 @@ fn refusal_sentence(refusal: Refusal) -> &'static str
 {
     match refusal {
         Refusal::Length => "A sheet has 1 to 32,768 bytes; this text has none, or more.",
-        Refusal::LineForm => "This line has not the form of a sheet's line, or may not stand here; or the text ends early.",
-        Refusal::Range => "A number in this line is outside its range, or there are too many symbols, rules, right symbols, attributes, arguments, sets or instructions.",
-        Refusal::Absent => "This line names a symbol, an occurrence, an attribute or a visit that is not there.",
-        Refusal::Start => "The first symbol is the start: it has one visit and no inherited attribute.",
-        Refusal::Target => "An equation here is for an attribute that the rule does not define or that has one already; or, at a plan, an attribute that the rule defines has no equation.",
-        Refusal::BadArgument => "An argument is an inherited attribute of the left occurrence, a synthesized one of a right occurrence, or d; one here is none of these.",
+        Refusal::LineForm =>
+            "This line has not the form of a sheet's line, or may not stand here; or the text ends early.",
+        Refusal::Range =>
+            "A number in this line is outside its range, or there are too many symbols, rules, right symbols, attributes, arguments, sets or instructions.",
+        Refusal::Absent =>
+            "This line names a symbol, an occurrence, an attribute or a visit that is not there.",
+        Refusal::Start =>
+            "The first symbol is the start: it has one visit and no inherited attribute.",
+        Refusal::Target =>
+            "An equation here is for an attribute that the rule does not define or that has one already; or, at a plan, an attribute that the rule defines has no equation.",
+        Refusal::BadArgument =>
+            "An argument is an inherited attribute of the left occurrence, a synthesized one of a right occurrence, or d; one here is none of these.",
         Refusal::Plan(rule) => plan_sentence(rule),
     }
 }

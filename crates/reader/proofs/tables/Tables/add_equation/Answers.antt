@@ -17,8 +17,7 @@ push-reserved-requires c κs =
 
 pub ghost-self : need.ghost-self
 ghost-self c =
-    let t = c .args .self .now in
-    (
+    let t = c .args .self .now in (
       t .«symbol_room»,
       (
         t .«rule_room»,
@@ -29,8 +28,8 @@ ghost-self c =
             (
               t .turn,
               (
-              spans-more (vec-len (t .equations)) (vec-len (c .push-reserved .last .self)) (vec-len (t .plan)) (vec-len (t .plan)) (omega (arith, c .push-reserved .ensures .len)) (omega arith) (vec-items (t .rules)) (t .opened) (t .spans),
-              tt,
+                spans-more (vec-len (t .equations)) (vec-len (c .push-reserved .last .self)) (vec-len (t .plan)) (vec-len (t .plan)) (omega (arith, c .push-reserved .ensures .len)) (omega arith) (vec-items (t .rules)) (t .opened) (t .spans),
+                tt,
               ),
             ),
           ),

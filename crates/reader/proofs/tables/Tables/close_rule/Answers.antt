@@ -39,8 +39,7 @@ pub ghost-self-in-None : need.ghost-self-in-None
 ghost-self-in-None c =
     let t = c .args .self .now in
     let o = open-here t (c .in-Some .open) (sym (c .in-Some .ensures tt .value)) in
-    let row : RuleRow = record { left = c .in-Some .open .left; right = c .in-Some .open .right; equations = record { start = c .in-Some .open .start; end = c .len .result }; plan = record { start = c .len-before .result; end = c .len-in-None .result } } in
-    (
+    let row : RuleRow = record { left = c .in-Some .open .left; right = c .in-Some .open .right; equations = record { start = c .in-Some .open .start; end = c .len .result }; plan = record { start = c .len-before .result; end = c .len-in-None .result } } in (
       t .«symbol_room»,
       (
         omega (arith, c .push-reserved .ensures .capacity, t .«rule_room»),
@@ -52,7 +51,7 @@ ghost-self-in-None c =
               ap (openFew (vec-len (c .push-reserved .last .self))) (c .take .ensures .after),
               (
                 closed-spans t (c .read-plan .last .plan) (vec-items (c .push-reserved .last .self)) row (c .take .last .self) (c .read-plan .ensures .grows) (c .take .ensures .after) (c .push-reserved .ensures .items)
-                (row-fits (vec-len (t .equations)) (vec-len (c .read-plan .last .plan)) row (omega (arith, o .starts, c .len .ensures)) (omega (arith, c .len .ensures)) (omega (arith, c .len-before .ensures, c .len-in-None .ensures, c .read-plan .ensures .grows)) (omega (arith, c .len-in-None .ensures))),
+                    (row-fits (vec-len (t .equations)) (vec-len (c .read-plan .last .plan)) row (omega (arith, o .starts, c .len .ensures)) (omega (arith, c .len .ensures)) (omega (arith, c .len-before .ensures, c .len-in-None .ensures, c .read-plan .ensures .grows)) (omega (arith, c .len-in-None .ensures))),
                 tt,
               ),
             ),

@@ -24,8 +24,7 @@ returns-in-None c =
 
 pub ghost-self : need.ghost-self
 ghost-self c =
-    let t = c .args .self .now in
-    (
+    let t = c .args .self .now in (
       t .«symbol_room»,
       (
         t .«rule_room»,

@@ -33,9 +33,9 @@ add-instructions c =
 pub loop-row-again : need.loop-row-again
 loop-row-again c = (
   ap (λ n. c .loop-row .sets + n) (c .size-sets .ensures)
-  ∙ sum-more (λ r. sizeOf (r .equations)) (c .deref-row-items .result .now) (vec-items (c .args .self .now .tables .rules)) (c .loop-row .row-index) (c .loop-row .sets) (c .row-item .result) (c .deref-row-items .ensures .value) (c .loop-row-test .taken) (c .row-item .is) (c .loop-row .inv .0) .0,
+      ∙ sum-more (λ r. sizeOf (r .equations)) (c .deref-row-items .result .now) (vec-items (c .args .self .now .tables .rules)) (c .loop-row .row-index) (c .loop-row .sets) (c .row-item .result) (c .deref-row-items .ensures .value) (c .loop-row-test .taken) (c .row-item .is) (c .loop-row .inv .0) .0,
   ap (λ n. c .loop-row .instructions + n) (c .size-instructions .ensures)
-  ∙ sum-more (λ r. sizeOf (r .plan)) (c .deref-row-items .result .now) (vec-items (c .args .self .now .tables .rules)) (c .loop-row .row-index) (c .loop-row .instructions) (c .row-item .result) (c .deref-row-items .ensures .value) (c .loop-row-test .taken) (c .row-item .is) (c .loop-row .inv .1) .0,
+      ∙ sum-more (λ r. sizeOf (r .plan)) (c .deref-row-items .result .now) (vec-items (c .args .self .now .tables .rules)) (c .loop-row .row-index) (c .loop-row .instructions) (c .row-item .result) (c .deref-row-items .ensures .value) (c .loop-row-test .taken) (c .row-item .is) (c .loop-row .inv .1) .0,
 )
 
 pub returns : need.returns

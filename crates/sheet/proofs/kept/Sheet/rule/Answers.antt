@@ -37,6 +37,6 @@ returns c =
     let is = c .part-plan .ensures ∙ ap (part (row .plan)) (c .deref-4 .ensures .value) in
     record {
       rule = (λ i. Some (record { left = row .left; right = c .as-slice .ensures i; equations = map equationOf (es i); plan = is i }))
-      ∙ row-rule (c .args .self .now .tables) (c .deref .result .now) (c .args .number) (Some (c .in-Continue-row .row)) (c .deref .ensures .value) (c .in-Continue-row .ensures tt .finds);
+          ∙ row-rule (c .args .self .now .tables) (c .deref .result .now) (c .args .number) (Some (c .in-Continue-row .row)) (c .deref .ensures .value) (c .in-Continue-row .ensures tt .finds);
       symbols = ap (map symbolOf) (c .deref-2 .ensures .value);
     }
