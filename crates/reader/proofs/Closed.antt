@@ -26,11 +26,12 @@ use Rattle.grammar.specs.declared.terms.Instruction.{Instruction}
 use Rattle.grammar.specs.declared.refusal.Refusal.{Refusal}
 use Rattle.grammar.specs.declared.refusal.Refusal.the-variants.{Range}
 use Rattle.words.specs.Tokens.{Token}
-use Rattle.reader.specs.LineKinds.Line.{planLine}
-use Rattle.reader.specs.Lines.{planIn, plannedBy}
-use Rattle.reader.specs.Read.{PlanRead}
+use Rattle.lines.specs.LineKinds.Line.{planLine}
+use Rattle.lines.specs.Lines.{planIn, plannedBy}
+use Rattle.reader.specs.PlanTable.{PlanRead}
 use Rattle.reader.specs.Spans.{spanFits, rowFits, openFits, spansFit, openFew}
-use Rattle.reader.specs.Steps.{State, failing, planFault, scopeIn, onOpen, faultOf, closed}
+use Rattle.lines.specs.Faults.{failing, planFault}
+use Rattle.reader.specs.Steps.{State, scopeIn, onOpen, faultOf, closed}
 use Rattle.reader.specs.Views.{ruleOf, openOf, openScope, stateOf}
 use Rattle.reader.specs.declared.rows.Span.{Span}
 use Rattle.reader.specs.declared.rows.RuleRow.{RuleRow}

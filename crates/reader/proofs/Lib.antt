@@ -2,6 +2,5 @@ pub mod Tabled
 pub mod Stepping
 pub mod Spanned
 pub mod PlanWords
-pub mod Completing
 pub mod Closed
 pub mod Folding

@@ -15,7 +15,7 @@ use Rattle.grammar.specs.Forms.{allOf, instructionWord}
 use Rattle.grammar.specs.declared.terms.Instruction.{Instruction}
 use Rattle.grammar.specs.declared.refusal.Refusal.the-variants.{LineForm, Range}
 use Rattle.grammar.proofs.Taking.{Sofar, sofar-none, sofar-more, sofar-bad, sofar-done}
-use Rattle.reader.specs.Read.{PlanRead}
+use Rattle.reader.specs.PlanTable.{PlanRead}
 
 -- ws are the words that are left; the table was `was` and is `now`, with all that was read, or full
 pub record Planned-so-far (all ws : List Token) (was now : List Instruction) (many : Bool) : Type 0 where

@@ -22,12 +22,13 @@ use Rattle.grammar.specs.Tests.{every}
 use Rattle.grammar.specs.declared.terms.Attribute.{Attribute}
 use Rattle.grammar.specs.declared.refusal.Refusal.{Refusal}
 use Rattle.grammar.specs.declared.refusal.Refusal.the-variants.{Range, Absent, Start}
-use Rattle.reader.specs.LineKinds.{Line}
-use Rattle.reader.specs.LineKinds.Line.{setLine}
+use Rattle.lines.specs.LineKinds.{Line}
+use Rattle.lines.specs.LineKinds.Line.{setLine}
 use Rattle.reader.specs.Views.{openOf, stateOf}
 use Rattle.reader.specs.declared.rows.Opened.{Opened}
 use Rattle.reader.specs.declared.tables.Tables.{Tables}
-use Rattle.reader.specs.Steps.{Open, State, Step, between1, starts, failing, symbolFault, ruleFault, setFault, scopeIn, onOpen, faultOf, after, unlessFault}
+use Rattle.lines.specs.Faults.{between1, starts, failing, symbolFault, ruleFault, setFault}
+use Rattle.reader.specs.Steps.{Open, State, Step, scopeIn, onOpen, faultOf, after, unlessFault}
 use Rattle.reader.specs.Steps.Step.{next, stop}
 use Rattle.reader.specs.Judgement.{onLine}
 

@@ -16,11 +16,11 @@ use Rattle.words.specs.Tokens.Token.{key, number, pair, instruction}
 use Rattle.grammar.specs.Model.{Grammar}
 use Rattle.grammar.specs.declared.refusal.Refusal.{Refusal}
 use Rattle.grammar.specs.declared.refusal.Refusal.the-variants.{Length, LineForm}
-use Rattle.reader.specs.LineKinds.{Line}
-use Rattle.reader.specs.Lines.{keyIn, parse}
+use Rattle.lines.specs.LineKinds.{Line}
+use Rattle.lines.specs.Lines.{keyIn, parse}
 use Rattle.reader.specs.Steps.{State, Step, nothing, isEmpty, allowed, step}
 use Rattle.reader.specs.Steps.Step.{next, stop}
-use Rattle.reader.specs.declared.lines.Key.{Key}
+use Rattle.lines.specs.declared.says.Key.{Key}
 use Rattle.reader.specs.declared.fault.Fault.{Fault}
 
 pub data Outcome : Type 0 where

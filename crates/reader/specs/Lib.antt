@@ -1,7 +1,5 @@
 pub mod Spans
-pub mod LineKinds
-pub mod Lines
-pub mod Read
+pub mod PlanTable
 pub mod Steps
 pub mod Judgement
 pub mod Views

@@ -9,21 +9,15 @@ ghost use Rattle.grammar.specs.Forms.{allOf, instructionWord};
 ghost use Rattle.grammar.specs.Rows.{equationOf};
 ghost use Rattle.grammar.specs.Scopes.{scopeOf, defines, attributesAt};
 ghost use Rattle.grammar.specs.Tests.{everyBelow};
-ghost use Rattle.reader.specs.Read.{PlanRead};
-ghost use Rattle.reader.specs.Steps.{hasTarget, complete, planFault};
+ghost use Rattle.reader.specs.PlanTable.{PlanRead};
+ghost use Rattle.lines.specs.Faults.{hasTarget, complete, planFault};
 ghost use Rattle.plans.specs.Groups.{groupScope, groupEquations, groupPlan};
 ghost use Rattle.reader.specs.Judgement.{onLine};
-ghost use Rattle.reader.specs.Lines.{planIn};
+ghost use Rattle.lines.specs.Lines.{planIn};
 ghost use Rattle.reader.specs.Views.{stateOf, openScope, Stepped};
-use super::checks::InstructionThere;
-use super::checks::InstructionThereCheck;
-use super::checks::RightVisit;
-use super::checks::RightVisitCheck;
-use super::checks::every;
 use super::rows::Opened;
 use super::rows::RuleRow;
 use super::rows::Span;
-use super::steps::has_target;
 use super::tables::Tables;
 use grammar::EquationRow;
 use grammar::Instruction;
@@ -32,6 +26,7 @@ use grammar::Production;
 use grammar::Refusal;
 use grammar::Spelled;
 use grammar::SymbolRow;
+use lines::plan_fault;
 use plans::Group;
 use words::Words;
 
@@ -57,50 +52,6 @@ fn read_plan(mut words: Words<'_>, plan: &mut Vec<Instruction>) -> Result<(), Re
         return Err(Refusal::Range);
     }
     Ok(())
-}
-
-// Whether each attribute of an occurrence that the rule defines has an equation.
-fn complete_at(production: Production<'_>, equations: &[EquationRow], occurrence: usize) -> bool
-    ensures { λ r. ⌜ r ≡ everyBelow (λ a. not (defines (scopeOf (production .entry)) occurrence a) || hasTarget (map equationOf (now (equations .entry))) occurrence a) (attributesAt (scopeOf (production .entry)) occurrence) ⌝ }
-{
-    for a in 0..production.attributes(occurrence).len() {
-        if production.defines(occurrence, a) && !has_target(equations, occurrence, a) {
-            return false;
-        }
-    }
-    true
-}
-
-// Whether each attribute that the rule defines has an equation.
-fn complete(production: Production<'_>, equations: &[EquationRow]) -> bool
-    ensures { λ r. ⌜ r ≡ complete (scopeOf (production .entry)) (map equationOf (now (equations .entry))) ⌝ }
-{
-    for k in 0..production.right.len() {
-        if !complete_at(production, equations, k + 1) {
-            return false;
-        }
-    }
-    complete_at(production, equations, 0)
-}
-
-// What is wrong with the plan of a rule.
-fn plan_fault(group: &Group<'_>) -> Option<Refusal>
-    ensures { λ r. ⌜ r ≡ planFault (groupScope (now (group .entry))) (groupEquations (now (group .entry))) (groupPlan (now (group .entry))) ⌝ }
-{
-    let production = group.production;
-    if !every(&RightVisit, group.plan) {
-        return Some(Refusal::Range);
-    }
-    if !every(&InstructionThere { production }, group.plan) {
-        return Some(Refusal::Absent);
-    }
-    if !complete(production, group.equations) {
-        return Some(Refusal::Target);
-    }
-    match group.first_broken() {
-        Some(rule) => Some(Refusal::Plan(rule)),
-        None => None,
-    }
 }
 
 // What is wrong with the plan of the rule that is open.

@@ -1,8 +1,6 @@
 // Sheets of grammar and plans: read, judged line by line, and kept.
-mod checks;
 mod closing;
 mod fault;
-mod lines;
 mod reading;
 mod rows;
 mod steps;

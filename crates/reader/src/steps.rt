@@ -9,10 +9,11 @@ ghost use Rattle.std.specs.Of.Vec.{vec-items};
 ghost use Rattle.std.specs.Options.{isSome};
 ghost use Rattle.std.specs.Vec.{made};
 ghost use Rattle.words.specs.Left.{left};
-ghost use Rattle.reader.specs.Lines.{symbolIn, ruleIn, setIn, planIn};
-ghost use Rattle.reader.specs.Steps.{nothing, isEmpty, allowed, between1, starts, symbolFault, ruleFault, hasTarget, setFault, faultOf};
-ghost use Rattle.reader.specs.LineKinds.Line.{setLine};
-ghost use Rattle.reader.specs.Read.{setOf};
+ghost use Rattle.lines.specs.Lines.{symbolIn, ruleIn, setIn, planIn};
+ghost use Rattle.lines.specs.Faults.{between1, starts, symbolFault, ruleFault, hasTarget, setFault};
+ghost use Rattle.reader.specs.Steps.{nothing, isEmpty, allowed, faultOf};
+ghost use Rattle.lines.specs.LineKinds.Line.{setLine};
+ghost use Rattle.lines.specs.Read.{setOf};
 ghost use Rattle.grammar.specs.Scopes.{scopeOf};
 ghost use Rattle.plans.specs.PlanTests.{targets};
 ghost use Rattle.grammar.specs.Listed.{listed};
@@ -20,30 +21,24 @@ ghost use Rattle.grammar.specs.Rows.{symbolOf, equationOf};
 ghost use Rattle.grammar.specs.Tests.{every};
 ghost use Rattle.reader.specs.Judgement.{onLine};
 ghost use Rattle.reader.specs.Views.{stateOf, Stepped};
-use super::checks::ArgumentTaken;
-use super::checks::ArgumentTakenCheck;
-use super::checks::ArgumentThere;
-use super::checks::ArgumentThereCheck;
-use super::checks::Check;
-use super::checks::SymbolThere;
-use super::checks::SymbolThereCheck;
-use super::checks::Synthesizes;
-use super::checks::SynthesizesCheck;
-use super::checks::VisitWithin;
-use super::checks::VisitWithinCheck;
-use super::checks::every;
-use super::lines::Key;
-use super::lines::RuleWords;
-use super::lines::SetWords;
-use super::lines::equation;
-use super::lines::rule;
-use super::lines::symbol;
 use super::rows::Opened;
 use super::tables::Tables;
 use grammar::EquationRow;
 use grammar::Production;
 use grammar::Refusal;
 use grammar::SymbolRow;
+use lines::Key;
+use lines::RuleWords;
+use lines::SetWords;
+use lines::Synthesizes;
+use lines::SynthesizesCheck;
+use lines::equation;
+use lines::equation_fault;
+use lines::every;
+use lines::rule;
+use lines::symbol;
+use lines::symbols_there;
+use lines::visits_there;
 use std::alloc::AllocError;
 use std::alloc::Global;
 use words::Words;
@@ -226,66 +221,4 @@ impl Tables {
             }
         }
     }
-}
-
-fn visits_there(symbol: &SymbolRow) -> bool
-    ensures { λ r. ⌜ r ≡ every (λ x. between1 (symbolOf (now (symbol .entry)) .visits) (x .visit)) (symbolOf (now (symbol .entry)) .attributes) ⌝ }
-{
-    let within = VisitWithin {
-        visits: symbol.visits,
-    };
-    every(&within, symbol.attributes.as_slice())
-}
-
-fn symbols_there(count: usize, row: &RuleWords) -> bool
-    ensures { λ r. ⌜ r ≡ every (λ x. ltb x count) (now (row .entry) .left ∷ listed (now (row .entry) .right)) ⌝ }
-{
-    let there = SymbolThere { count };
-    there.check(row.left) && every(&there, row.right.as_slice())
-}
-
-fn is_target(e: &EquationRow, occurrence: usize, attribute: usize) -> bool
-    ensures { λ r. ⌜ r ≡ targets (equationOf (now (e .entry))) occurrence attribute ⌝ }
-{
-    usize::from(e.occurrence) == occurrence && usize::from(e.attribute) == attribute
-}
-
-pub(super) fn has_target(equations: &[EquationRow], occurrence: usize, attribute: usize) -> bool
-    ensures { λ r. ⌜ r ≡ hasTarget (map equationOf (now (equations .entry))) occurrence attribute ⌝ }
-{
-    for e in equations {
-        if is_target(e, occurrence, attribute) {
-            return true;
-        }
-    }
-    false
-}
-
-// What is wrong with an equation in a rule that has some already.
-fn equation_fault(
-    production: Production<'_>,
-    equations: &[EquationRow],
-    set: &SetWords,
-) -> Option<Refusal>
-    ensures { λ r. ⌜ r ≡ setFault (scopeOf (production .entry)) (map equationOf (now (equations .entry))) (setOf (now (set .entry))) ⌝ }
-{
-    let arguments = set.arguments.as_slice();
-    let occurrence = usize::from(set.occurrence);
-    let attribute = usize::from(set.attribute);
-    if production.attribute(occurrence, attribute).is_none() {
-        return Some(Refusal::Absent);
-    }
-    if !every(&ArgumentThere { production }, arguments) {
-        return Some(Refusal::Absent);
-    }
-    if !production.defines(occurrence, attribute) {
-        return Some(Refusal::Target);
-    }
-    if has_target(equations, occurrence, attribute) {
-        return Some(Refusal::Target);
-    }
-    if !every(&ArgumentTaken { production }, arguments) {
-        return Some(Refusal::BadArgument);
-    }
-    None
 }

@@ -16,8 +16,8 @@ use Rattle.words.specs.Cuts.{partsAt}
 use Rattle.grammar.specs.Model.{Symbol, Equation, Rule, Grammar}
 use Rattle.grammar.specs.declared.refusal.PlanRule.the-variants.{ReturnsInOrder}
 use Rattle.plans.specs.Groups.{Tests-tell}
-use Rattle.reader.specs.LineKinds.{Line}
-use Rattle.reader.specs.LineKinds.Line.{ruleLine, setLine, planLine}
+use Rattle.lines.specs.LineKinds.{Line}
+use Rattle.lines.specs.LineKinds.Line.{ruleLine, setLine, planLine}
 use Rattle.reader.specs.Steps.{Open, State, nothing, isEmpty, allowed, faultOf, after, unlessFault}
 use Rattle.reader.specs.Judgement.{judge, judgeFrom, ofLength}
 use Rattle.reader.specs.Judgement.Outcome.{sheet}

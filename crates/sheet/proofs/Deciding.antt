@@ -24,7 +24,7 @@ use Rattle.grammar.specs.declared.terms.Argument.the-variants.{Datum, Of}
 use Rattle.grammar.specs.declared.terms.Instruction.{Instruction}
 use Rattle.grammar.specs.declared.terms.Instruction.the-variants.{Evaluate, Visit, Return}
 use Rattle.plans.specs.PlanTests.{targets}
-use Rattle.reader.specs.Steps.{hasTarget, rightVisit, complete}
+use Rattle.lines.specs.Faults.{hasTarget, rightVisit, complete}
 use Rattle.sheet.specs.Meaning.{Taken, There}
 use Rattle.sheet.proofs.Places.{nth-below}
 

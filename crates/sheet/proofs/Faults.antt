@@ -24,7 +24,7 @@ use Rattle.grammar.specs.declared.refusal.Refusal.the-variants.{Range, Absent, 
 use Rattle.plans.specs.Groups.{Tests-tell}
 use Rattle.plans.specs.PlanRules.{Planned}
 use Rattle.plans.specs.PlanTests.{firstBroken}
-use Rattle.reader.specs.Steps.{between1, synthesizes, starts, failing, symbolFault, ruleFault, hasTarget, setFault, rightVisit, complete, planFault}
+use Rattle.lines.specs.Faults.{between1, synthesizes, starts, failing, symbolFault, ruleFault, hasTarget, setFault, rightVisit, complete, planFault}
 use Rattle.sheet.specs.Meaning.{Start-symbol, Taken, There}
 use Rattle.sheet.proofs.Deciding.{decides-leb, decides-every, defined-there, taken-there, decides-taken, every-from, all-there, all-right, all-is, Target-at, decides-target, Complete, decides-complete}
 use Rattle.sheet.proofs.Broken.{planned-from, planned-passes}

@@ -15,7 +15,7 @@ use Rattle.std.proofs.shelf.Tests.{and-parts, leb-true}
 use Rattle.grammar.specs.Model.{Symbol, Rule, Grammar}
 use Rattle.grammar.specs.declared.refusal.Refusal.{Refusal}
 use Rattle.plans.specs.Groups.{Tests-tell}
-use Rattle.reader.specs.LineKinds.{Line}
+use Rattle.lines.specs.LineKinds.{Line}
 use Rattle.reader.specs.Steps.{Open, State, nothing, isEmpty, faultOf, after, unlessFault, step}
 use Rattle.reader.specs.Steps.Step.{next}
 use Rattle.reader.specs.Judgement.{judge, ofLength, longEnough, whole}

@@ -25,14 +25,14 @@ use Rattle.grammar.specs.declared.terms.Argument.{Argument}
 use Rattle.grammar.specs.declared.terms.Instruction.{Instruction}
 use Rattle.grammar.specs.declared.refusal.Refusal.{Refusal}
 use Rattle.grammar.specs.declared.refusal.Refusal.the-variants.{Range}
-use Rattle.reader.specs.LineKinds.{Line}
-use Rattle.reader.specs.LineKinds.Line.{symbolLine, ruleLine, setLine, planLine}
-use Rattle.reader.specs.Lines.{keyIn, together, equation, functionIn, symbolIn, ruleIn, setIn, plannedBy, planIn, parse}
+use Rattle.lines.specs.LineKinds.{Line}
+use Rattle.lines.specs.LineKinds.Line.{symbolLine, ruleLine, setLine, planLine}
+use Rattle.lines.specs.Lines.{keyIn, together, equation, functionIn, symbolIn, ruleIn, setIn, plannedBy, planIn, parse}
 use Rattle.reader.specs.Steps.{State, allowed}
 use Rattle.reader.specs.Steps.Step.{next}
 use Rattle.reader.specs.Judgement.{onLine, ifAllowed, onKey, onKeyed, judgeLine}
-use Rattle.reader.specs.declared.lines.Key.{Key}
-use Rattle.reader.specs.declared.lines.Key.the-variants.{OfSymbol, OfRule, OfSet, OfPlan}
+use Rattle.lines.specs.declared.says.Key.{Key}
+use Rattle.lines.specs.declared.says.Key.the-variants.{OfSymbol, OfRule, OfSet, OfPlan}
 use Rattle.sheet.specs.Writing.{writePair, writeAttribute, writeArgument, writeInstruction, spaced, writeLine}
 use Rattle.sheet.proofs.Statements.{kind, SmallArgument, SmallInstruction, Writable, Read-as, Lines-go-back, Lines-come, Lines-lack-ends}
 use Rattle.sheet.proofs.Numerals.{lacks-append}

@@ -28,15 +28,16 @@ use Rattle.grammar.specs.declared.refusal.Refusal.the-variants.{Length, LineFor
 use Rattle.plans.specs.Groups.{Tests-tell}
 use Rattle.plans.specs.PlanRules.{FirstBroken}
 use Rattle.plans.specs.PlanTests.{firstBroken}
-use Rattle.reader.specs.LineKinds.{Line}
-use Rattle.reader.specs.LineKinds.Line.{symbolLine, ruleLine, setLine, planLine}
-use Rattle.reader.specs.Lines.{keyIn, together, functionIn, plannedBy, parse}
-use Rattle.reader.specs.Steps.{Open, State, Step, nothing, allowed, between1, starts, failing, symbolFault, ruleFault, hasTarget, setFault, rightVisit, complete, planFault, faultOf, after, unlessFault, step}
+use Rattle.lines.specs.LineKinds.{Line}
+use Rattle.lines.specs.LineKinds.Line.{symbolLine, ruleLine, setLine, planLine}
+use Rattle.lines.specs.Lines.{keyIn, together, functionIn, plannedBy, parse}
+use Rattle.lines.specs.Faults.{between1, starts, failing, symbolFault, ruleFault, hasTarget, setFault, rightVisit, complete, planFault}
+use Rattle.reader.specs.Steps.{Open, State, Step, nothing, allowed, faultOf, after, unlessFault, step}
 use Rattle.reader.specs.Steps.Step.{next, stop}
 use Rattle.reader.specs.Judgement.{onLine, ifAllowed, onKey, onKeyed, judgeLine, faultAt, endWith, goOn, judgeFrom, whole, ofLength, longEnough}
 use Rattle.reader.specs.declared.fault.Fault.{Fault}
-use Rattle.reader.specs.declared.lines.Key.{Key}
-use Rattle.reader.specs.declared.lines.Key.the-variants.{OfSymbol, OfRule, OfSet, OfPlan}
+use Rattle.lines.specs.declared.says.Key.{Key}
+use Rattle.lines.specs.declared.says.Key.the-variants.{OfSymbol, OfRule, OfSet, OfPlan}
 use Rattle.sheet.specs.Writing.{writeLine, ended, linesOf, groupOf}
 use Rattle.sheet.specs.Meaning.{Plan-broken, Plan-refusals}
 use Rattle.sheet.proofs.Statements.{Runs}

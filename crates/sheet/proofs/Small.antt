@@ -16,7 +16,7 @@ use Rattle.grammar.specs.declared.terms.Argument.{Argument}
 use Rattle.grammar.specs.declared.terms.Argument.the-variants.{Datum, Of}
 use Rattle.grammar.specs.declared.terms.Instruction.{Instruction}
 use Rattle.grammar.specs.declared.terms.Instruction.the-variants.{Evaluate, Visit, Return}
-use Rattle.reader.specs.LineKinds.Line.{symbolLine, ruleLine, setLine, planLine}
+use Rattle.lines.specs.LineKinds.Line.{symbolLine, ruleLine, setLine, planLine}
 use Rattle.sheet.specs.Meaning.{Sound-symbol, Taken, Sound-equation, There}
 use Rattle.sheet.proofs.Statements.{SmallArgument, SmallInstruction, Writable}
 use Rattle.sheet.proofs.Places.{nth-below, all-nth}

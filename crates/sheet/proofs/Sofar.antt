@@ -18,8 +18,8 @@ use Rattle.grammar.specs.Model.{Symbol, Equation, Rule, Grammar}
 use Rattle.grammar.specs.Scopes.{Scope, defines}
 use Rattle.grammar.specs.declared.terms.Instruction.{Instruction}
 use Rattle.plans.specs.Groups.{Tests-tell}
-use Rattle.reader.specs.LineKinds.{Line}
-use Rattle.reader.specs.LineKinds.Line.{symbolLine, ruleLine, setLine, planLine}
+use Rattle.lines.specs.LineKinds.{Line}
+use Rattle.lines.specs.LineKinds.Line.{symbolLine, ruleLine, setLine, planLine}
 use Rattle.reader.specs.Steps.{Open, State, nothing, isEmpty, allowed, faultOf, addTo, closed, after}
 use Rattle.sheet.specs.Writing.{symbolLineOf, groupOf, linesOf}
 use Rattle.sheet.specs.Meaning.{Sound-symbol, Start-symbol, Sound-equation, Only-equation, Sound-rule, setsIn, instructionsIn}
@@ -79,7 +79,7 @@ apart-push es e h fresh p q f g sp sq oc at = by (nth-push es e p f sp) (nth-pus
     by (inr a) (inl b) = absurd (fresh (record { place = q; equation = g; stands = b; occurrence-is = sym oc ∙ ap (λ x. x .occurrence) (sym (a .1)); attribute-is = sym at ∙ ap (λ x. x .attribute) (sym (a .1)) }))
     by (inr a) (inr b) = a .0 ∙ sym (b .0)
 
--- the scope of a rule that is open
+-- the symbols and occurrences of the open rule
 abbrev pub scopeHere : List Symbol → Open → Scope
 scopeHere ss o = record { symbols = ss; occurrences = o .left ∷ o .right }
 

@@ -14,14 +14,14 @@ use Rattle.grammar.specs.declared.terms.Argument.{Argument}
 use Rattle.grammar.specs.declared.terms.Argument.the-variants.{Datum, Of}
 use Rattle.grammar.specs.declared.terms.Instruction.{Instruction}
 use Rattle.grammar.specs.declared.terms.Instruction.the-variants.{Evaluate, Visit, Return}
-use Rattle.reader.specs.LineKinds.{Line}
-use Rattle.reader.specs.LineKinds.Line.{symbolLine, ruleLine, setLine, planLine}
+use Rattle.lines.specs.LineKinds.{Line}
+use Rattle.lines.specs.LineKinds.Line.{symbolLine, ruleLine, setLine, planLine}
 use Rattle.reader.specs.Steps.{State, Step, allowed, step}
 use Rattle.reader.specs.Steps.Step.{next, stop}
 use Rattle.reader.specs.Judgement.{Outcome, judgeLine, judgeFrom, ifAllowed, whole}
 use Rattle.reader.specs.Judgement.Outcome.{sheet, fault}
-use Rattle.reader.specs.declared.lines.Key.{Key}
-use Rattle.reader.specs.declared.lines.Key.the-variants.{OfSymbol, OfRule, OfSet, OfPlan}
+use Rattle.lines.specs.declared.says.Key.{Key}
+use Rattle.lines.specs.declared.says.Key.the-variants.{OfSymbol, OfRule, OfSet, OfPlan}
 use Rattle.sheet.specs.Writing.{writeLine, ended}
 
 abbrev pub kind : Line → Key

@@ -10,7 +10,7 @@ use Rattle.std.proofs.shelf.Lists.{append-nil}
 use Rattle.words.specs.Cuts.{partsAt}
 use Rattle.words.proofs.Parts.{parts-found, parts-some}
 use Rattle.grammar.specs.Model.{Grammar}
-use Rattle.reader.specs.LineKinds.{Line}
+use Rattle.lines.specs.LineKinds.{Line}
 use Rattle.reader.specs.Steps.{State, Step, allowed, step}
 use Rattle.reader.specs.Steps.Step.{next, stop}
 use Rattle.reader.specs.Judgement.{judgeLine, judgeFrom, ifAllowed, goOn, endWith, whole}

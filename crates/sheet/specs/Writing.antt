@@ -12,8 +12,8 @@ use Rattle.grammar.specs.declared.terms.Argument.{Argument}
 use Rattle.grammar.specs.declared.terms.Argument.the-variants.{Datum, Of}
 use Rattle.grammar.specs.declared.terms.Instruction.{Instruction}
 use Rattle.grammar.specs.declared.terms.Instruction.the-variants.{Evaluate, Visit, Return}
-use Rattle.reader.specs.LineKinds.{Line}
-use Rattle.reader.specs.LineKinds.Line.{symbolLine, ruleLine, setLine, planLine}
+use Rattle.lines.specs.LineKinds.{Line}
+use Rattle.lines.specs.LineKinds.Line.{symbolLine, ruleLine, setLine, planLine}
 
 -- two numbers with a dot between them
 abbrev pub writePair : ℕ → ℕ → List ℕ

@@ -1,7 +1,7 @@
 use mathlib.Core.Path.{ap, _∙_}
 use mathlib.Core.List.{_∷_, map}
 use Rattle.grammar.specs.Rows.{symbolOf, equationOf}
-use Rattle.reader.specs.Steps.{planFault}
+use Rattle.lines.specs.Faults.{planFault}
 use Rattle.reader.proofs.closing.open_fault.Needs as need
 
 pub returns : need.returns

@@ -1,7 +1,7 @@
 use mathlib.Core.Path.{_≡_, sym, ap, _∙_}
 use native.Mathlib.Omega.{arith}
 use Rattle.std.specs.Of.Vec.{vec-items, vec-len}
-use Rattle.reader.specs.Read.{setOf}
+use Rattle.lines.specs.Read.{setOf}
 use Rattle.reader.specs.Steps.Step.{next}
 use Rattle.reader.specs.Views.{stateOf}
 use Rattle.reader.proofs.Spanned.{spans-more, gained}

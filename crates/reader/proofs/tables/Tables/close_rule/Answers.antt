@@ -10,7 +10,7 @@ use Rattle.std.proofs.shelf.Lists.{take-rest}
 use Rattle.words.specs.Left.{left}
 use Rattle.grammar.specs.Listed.{listed}
 use Rattle.grammar.specs.Rows.{equationOf}
-use Rattle.reader.specs.LineKinds.Line.{planLine}
+use Rattle.lines.specs.LineKinds.Line.{planLine}
 use Rattle.reader.specs.Spans.{openFew}
 use Rattle.reader.specs.Steps.Step.{next}
 use Rattle.reader.specs.declared.rows.RuleRow.{RuleRow}

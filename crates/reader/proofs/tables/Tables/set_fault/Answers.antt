@@ -2,7 +2,7 @@ use mathlib.Core.Path.{sym, ap, _∙_}
 use native.Mathlib.Omega.{arith}
 use lib.ListN.{drop}
 use Rattle.std.proofs.shelf.Lists.{take-rest}
-use Rattle.reader.specs.Read.{setOf}
+use Rattle.lines.specs.Read.{setOf}
 use Rattle.reader.proofs.Stepping.{set-judged}
 use Rattle.reader.proofs.tables.Tables.set_fault.Needs as need
 

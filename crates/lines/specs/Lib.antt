@@ -1,0 +1,4 @@
+pub mod LineKinds
+pub mod Lines
+pub mod Read
+pub mod Faults
