@@ -106,7 +106,7 @@ impl<'a> Production<'a> {
         self.attributes(occurrence).get(attribute).copied()
     }
 
-    // Whether the rule has an equation for that attribute.
+    // Whether the rule has to have an equation for that attribute.
     pub fn defines(&self, occurrence: usize, attribute: usize) -> bool
         ensures { λ r. ⌜ r ≡ defines (scopeOf (now (self .entry))) occurrence attribute ⌝ }
     {
@@ -139,11 +139,7 @@ impl<'a> Production<'a> {
     {
         match argument {
             Argument::Datum => true,
-            Argument::Of(occurrence, attribute) => self.attribute(
-                    usize::from(occurrence),
-                    usize::from(attribute),
-                )
-                .is_some(),
+            Argument::Of(occurrence, attribute) => self.is_there(occurrence, attribute),
         }
     }
 
@@ -171,11 +167,7 @@ impl<'a> Production<'a> {
         ensures { λ r. ⌜ r ≡ instructionThere (scopeOf (now (self .entry))) instruction ⌝ }
     {
         match instruction {
-            Instruction::Evaluate(occurrence, attribute) => self.attribute(
-                    usize::from(occurrence),
-                    usize::from(attribute),
-                )
-                .is_some(),
+            Instruction::Evaluate(occurrence, attribute) => self.is_there(occurrence, attribute),
             Instruction::Visit(occurrence, visit) => self.visit_there(
                 usize::from(occurrence),
                 visit,

@@ -18,7 +18,7 @@ use Rattle.reader.specs.declared.fault.Fault.{Fault}
 use Rattle.reader.specs.declared.tables.Tables.{Tables}
 use Rattle.sheet.specs.Answers.{Judged, Means}
 use Rattle.sheet.specs.Kept.{empty, grammarFrom, readBack}
-use Rattle.sheet.specs.Meaning.{Sound, Sheet-of, Acceptance, Plan-refusals, Plan-broken}
+use Rattle.sheet.specs.Meaning.{Sheet-of, Acceptance, Plan-refusals, Plan-broken}
 use Rattle.sheet.specs.Same.{sameGrammar}
 use Rattle.sheet.specs.Writing.{write}
 use Rattle.sheet.proofs.Acceptance.{accepts}
@@ -53,10 +53,10 @@ means (Err f) text t h = (
   (λ p e. plan-refusals text p (f .line) (h .0 ∙ ap (λ x. fault (record { refusal = x; line = f .line })) e)),
 )
 
--- a grammar that reads back as itself is empty or meets every rule
-pub empty-or-sound : (g : Grammar) → sameGrammar (readBack g) g ≡ true → (g ≡ empty) ⊎ Sound g
-empty-or-sound g h = by (judge (write g)) refl (grammars .sound (readBack g) g h)
+-- a grammar that reads back as itself is empty, or its writing is a sheet of it
+pub empty-or-sheet : (g : Grammar) → sameGrammar (readBack g) g ≡ true → (g ≡ empty) ⊎ Sheet-of (write g) g
+empty-or-sheet g h = by (judge (write g)) refl (grammars .sound (readBack g) g h)
   where
-    by : (o : Outcome) → judge (write g) ≡ o → grammarFrom o ≡ g → (g ≡ empty) ⊎ Sound g
-    by (sheet k) e same = inr (acceptance (write g) g .0 (e ∙ ap sheet same) .sound)
+    by : (o : Outcome) → judge (write g) ≡ o → grammarFrom o ≡ g → (g ≡ empty) ⊎ Sheet-of (write g) g
+    by (sheet k) e same = inr (acceptance (write g) g .0 (e ∙ ap sheet same))
     by (fault f) e same = inl (sym same)

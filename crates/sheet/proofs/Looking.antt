@@ -33,19 +33,20 @@ use Rattle.reader.specs.declared.tables.Tables.{Tables}
 use Rattle.reader.proofs.Spanned.{Within, within}
 use Rattle.sheet.specs.Answers.{sizeOf}
 use Rattle.sheet.specs.Kept.{empty, readBack}
-use Rattle.sheet.specs.Meaning.{Sound, setsIn, instructionsIn}
+use Rattle.sheet.specs.Meaning.{Sheet-of, setsIn, instructionsIn}
 use Rattle.sheet.specs.Same.{sameGrammar}
-use Rattle.sheet.proofs.Keeping.{empty-or-sound}
+use Rattle.sheet.specs.Writing.{write}
+use Rattle.sheet.proofs.Keeping.{empty-or-sheet}
 
 -- where the table of rules is empty the sheet is, and else it was accepted
-pub looked-empty : (t : Tables) (r : Bool) → sameGrammar (readBack (grammarIn (stateOf t))) (grammarIn (stateOf t)) ≡ true → r ≡ eqb (vec-len (t .rules)) 0 → When r (grammarIn (stateOf t) ≡ empty) (Sound (grammarIn (stateOf t)))
-looked-empty t r h e = by r (sym e) (empty-or-sound (grammarIn (stateOf t)) h)
+pub looked-empty : (t : Tables) (r : Bool) → sameGrammar (readBack (grammarIn (stateOf t))) (grammarIn (stateOf t)) ≡ true → r ≡ eqb (vec-len (t .rules)) 0 → When r (grammarIn (stateOf t) ≡ empty) (Sheet-of (write (grammarIn (stateOf t))) (grammarIn (stateOf t)))
+looked-empty t r h e = by r (sym e) (empty-or-sheet (grammarIn (stateOf t)) h)
   where
     none : (k : grammarIn (stateOf t) ≡ empty) → vec-len (t .rules) ≡ 0
     none k = t .rules .ok .0 ∙ sym (length-map (vec-items (t .rules)) (ruleOf (vec-items (t .equations)) (vec-items (t .plan)))) ∙ ap (λ g. length (g .rules)) k
 
-    by : (b : Bool) → eqb (vec-len (t .rules)) 0 ≡ b → (grammarIn (stateOf t) ≡ empty) ⊎ Sound (grammarIn (stateOf t)) → When b (grammarIn (stateOf t) ≡ empty) (Sound (grammarIn (stateOf t)))
-    by true z c = ⊎-elim (λ k. k) (λ s. absurd (omega (arith, eqb-true (vec-len (t .rules)) 0 z, s .some-rule, length-map (vec-items (t .rules)) (ruleOf (vec-items (t .equations)) (vec-items (t .plan))), t .rules .ok .0))) c
+    by : (b : Bool) → eqb (vec-len (t .rules)) 0 ≡ b → (grammarIn (stateOf t) ≡ empty) ⊎ Sheet-of (write (grammarIn (stateOf t))) (grammarIn (stateOf t)) → When b (grammarIn (stateOf t) ≡ empty) (Sheet-of (write (grammarIn (stateOf t))) (grammarIn (stateOf t)))
+    by true z c = ⊎-elim (λ k. k) (λ s. absurd (omega (arith, eqb-true (vec-len (t .rules)) 0 z, s .sound .some-rule, length-map (vec-items (t .rules)) (ruleOf (vec-items (t .equations)) (vec-items (t .plan))), t .rules .ok .0))) c
     by false z c = ⊎-elim (λ k. absurd (eqb-false (vec-len (t .rules)) 0 z (none k))) (λ s. s) c
 
 -- the bounds of a row's parts
@@ -107,6 +108,6 @@ pub sizes : (t : Tables) → sameGrammar (readBack (grammarIn (stateOf t))) (gra
 sizes t h =
     let p = and-parts (every (rowFits (vec-len (t .equations)) (vec-len (t .plan))) (vec-items (t .rules))) (openFits (vec-len (t .equations)) (t .opened)) (t .spans) in
     let k = rows-sizes (vec-items (t .equations)) (vec-items (t .plan)) (vec-len (t .equations)) (vec-len (t .plan)) (t .equations .ok .0) (t .plan .ok .0) (vec-items (t .rules)) (p .0) in
-    let c = empty-or-sound (grammarIn (stateOf t)) h in
-    let few : (setsIn (rulesOf t) ≤ 512) × (instructionsIn (rulesOf t) ≤ 1024) = ⊎-elim (λ e. (omega (arith, ap (λ g. setsIn (g .rules)) e), omega (arith, ap (λ g. instructionsIn (g .rules)) e))) (λ s. (s .few-sets, s .few-instructions)) c in
+    let c = empty-or-sheet (grammarIn (stateOf t)) h in
+    let few : (setsIn (rulesOf t) ≤ 512) × (instructionsIn (rulesOf t) ≤ 1024) = ⊎-elim (λ e. (omega (arith, ap (λ g. setsIn (g .rules)) e), omega (arith, ap (λ g. instructionsIn (g .rules)) e))) (λ s. (s .sound .few-sets, s .sound .few-instructions)) c in
     record { sets = k .0; instructions = k .1; few-sets = few .0; few-instructions = few .1 }

@@ -5,10 +5,11 @@ use Prim.Native.Nat.{ℕ}
 use lib.Chars.{codes}
 use Rattle.std.specs.shelf.Lists.{joined}
 use Rattle.grammar.specs.Model.{Symbol, Equation, Rule, Grammar}
-use Rattle.grammar.specs.Refusals.{refusalNumber, ruleNumber}
+use Rattle.grammar.specs.Refusals.{refusalNumber, layerOf, ruleNumber}
 use Rattle.grammar.specs.declared.terms.Flow.the-variants.{Inherited, Synthesized}
 use Rattle.grammar.specs.declared.terms.Argument.the-variants.{Datum, Of}
 use Rattle.grammar.specs.declared.terms.Instruction.the-variants.{Evaluate, Visit, Return}
+use Rattle.grammar.specs.declared.refusal.Layer.the-variants.{OfPlan}
 use Rattle.grammar.specs.declared.refusal.PlanRule.{PlanRule}
 use Rattle.grammar.specs.declared.refusal.PlanRule.the-variants.{ReturnsInOrder, ArgumentsFirst}
 use Rattle.grammar.specs.declared.refusal.Refusal.the-variants.{Plan}
@@ -99,6 +100,7 @@ pub record Worked-sheets : Type 0 where
   pub accepted : judge dayText ≡ sheet day
   pub early : judge earlyText ≡ faultAt 15 (Plan ArgumentsFirst)
   pub unreturned : judge unreturnedText ≡ faultAt 19 (Plan ReturnsInOrder)
+  pub plan-layer : (p : PlanRule) → layerOf (Plan p) ≡ OfPlan
   pub plan-number : (p : PlanRule) → refusalNumber (Plan p) ≡ 8
   pub early-rule : ruleNumber ArgumentsFirst ≡ 6
   pub unreturned-rule : ruleNumber ReturnsInOrder ≡ 1

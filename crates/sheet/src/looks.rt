@@ -12,7 +12,8 @@ ghost use Rattle.plans.specs.Groups.{groupScope};
 ghost use Rattle.reader.specs.Views.{part};
 ghost use Rattle.sheet.specs.Answers.{grammarOf, groupRule, sizeOf, Counted};
 ghost use Rattle.sheet.specs.Kept.{empty};
-ghost use Rattle.sheet.specs.Meaning.{Sound};
+ghost use Rattle.sheet.specs.Meaning.{Sheet-of};
+ghost use Rattle.sheet.specs.Writing.{write};
 use super::counts::Counts;
 use super::kept::Sheet;
 use grammar::Production;
@@ -38,9 +39,9 @@ fn size(span: Span) -> usize
 }
 
 impl Sheet {
-    // Whether no sheet was accepted. What was accepted meets every rule.
+    // Whether no sheet was accepted. What was accepted meets every rule, and its writing is a sheet.
     pub fn is_empty(&self) -> bool
-        ensures { λ r. ⌜ When r (grammarOf (now (self .entry)) ≡ empty) (Sound (grammarOf (now (self .entry)))) ⌝ }
+        ensures { λ r. ⌜ When r (grammarOf (now (self .entry)) ≡ empty) (Sheet-of (write (grammarOf (now (self .entry)))) (grammarOf (now (self .entry)))) ⌝ }
     {
         self.tables.rules.is_empty()
     }

@@ -2,47 +2,60 @@
 use sheet::Sheet;
 use std::env;
 use std::error::AnyError;
-use std::fs;
+use std::fs::File;
 use std::io;
 use std::io::Read;
 use verdict::Verdict;
 
-// The bytes to judge. `-`, or no name, is standard input.
-fn source(rt: &LibcRuntime) -> io::Result<Vec<u8>> {
-    let mut words = env::args(rt)?;
-    let _program = words.next();
-    if let Some(path) = words.next() {
-        if path.as_str() != "-" {
-            return fs::read(rt, path.as_str());
-        }
-    }
+// One byte more than a sheet may have is enough to judge any text.
+const ENOUGH: u64 = 32769;
+
+fn from_input(rt: &LibcRuntime) -> io::Result<Vec<u8>> {
     let mut bytes = Vec::new(rt.alloc());
-    rt.stdin().read_to_end(&mut bytes)?;
+    rt.stdin().take(ENOUGH).read_to_end(&mut bytes)?;
     Ok(bytes)
 }
 
-fn show(rt: &LibcRuntime, verdict: &Verdict) -> Result<(), AnyError> {
-    let head = verdict.head(rt.alloc())?;
-    let detail = verdict.detail(rt.alloc())?;
-    println!(rt, "{head}")?;
-    println!(rt, "{detail}")?;
+fn from_file(rt: &LibcRuntime, path: &str) -> io::Result<Vec<u8>> {
+    let mut bytes = Vec::new(rt.alloc());
+    File::open(rt, path)?.take(ENOUGH).read_to_end(&mut bytes)?;
+    Ok(bytes)
+}
+
+fn judge(rt: &LibcRuntime, text: &[u8]) -> Result<(), AnyError> {
+    let mut sheet = Sheet::new(rt.alloc())?;
+    let verdict = Verdict::of(&mut sheet, text);
+    rt.print(verdict.account(rt.alloc())?)?;
     if verdict.is_accepted() {
-        return Ok(());
+        Ok(())
+    } else {
+        Err("the sheet is refused".into())
     }
-    rt.println(verdict.sentence())?;
-    Err("the sheet is refused".into())
+}
+
+// `-` is standard input.
+fn run(rt: &LibcRuntime, path: &str) -> Result<(), AnyError> {
+    let source = if path == "-" {
+        from_input(rt)
+    } else {
+        from_file(rt, path)
+    };
+    match source {
+        Ok(text) => judge(rt, &text),
+        Err(error) => complain(rt, path, error),
+    }
+}
+
+fn complain(rt: &LibcRuntime, path: &str, error: io::Error) -> Result<(), AnyError> {
+    eprintln!(rt, "sheet_check: {path} cannot be read: {error}")?;
+    Err(error.into())
 }
 
 fn main(rt: LibcRuntime) -> Result<(), AnyError> {
-    match source(&rt) {
-        Ok(bytes) => {
-            let mut sheet = Sheet::new(rt.alloc())?;
-            let verdict = Verdict::of(&mut sheet, &bytes);
-            show(&rt, &verdict)
-        }
-        Err(error) => {
-            eprintln!(rt, "sheet_check: the sheet cannot be read: {error}")?;
-            Err(error.into())
-        }
+    let mut words = env::args(&rt)?;
+    let _program = words.next();
+    match words.next() {
+        Some(path) => run(&rt, path.as_str()),
+        None => run(&rt, "-"),
     }
 }

@@ -30,12 +30,15 @@ fn judge_all(rt: &LibcRuntime, cases: &[u8]) -> Result<(), AnyError> {
     let mut rest = cases;
     while let Some((line, after)) = cut(rest, b'\n') {
         let (name, length) = header(line)?;
-        if after.len() <= length {
-            return Err("a case is shorter than its length".into());
+        if after.len() <= length || after[length] != b'\n' {
+            return Err("a case has not the length that it says".into());
         }
         let verdict = Verdict::of(&mut sheet, &after[0..length]);
         show(rt, name, &verdict)?;
         rest = &after[length + 1..];
+    }
+    if !rest.is_empty() {
+        return Err("the last case is not whole".into());
     }
     Ok(())
 }

@@ -5,6 +5,7 @@ use mathlib.Core.List.{List, [], _∷_, _++_}
 use Prim.Native.Nat.{ℕ}
 use lib.Chars.{codes}
 use Rattle.std.specs.Written.{decimal}
+use Rattle.grammar.specs.Model.{Grammar}
 use Rattle.grammar.specs.Refusals.{refusalNumber, ruleNumber, layerOf}
 use Rattle.grammar.specs.declared.refusal.Layer.{Layer}
 use Rattle.grammar.specs.declared.refusal.Layer.the-variants.{OfText, OfGrammar, OfPlan}
@@ -15,6 +16,7 @@ use Rattle.grammar.specs.declared.refusal.Refusal.the-variants.{Length, LineFor
 use Rattle.reader.specs.Judgement.{Outcome}
 use Rattle.reader.specs.Judgement.Outcome.{sheet, fault}
 use Rattle.sheet.specs.Answers.{Counted}
+use Rattle.sheet.specs.Kept.{empty}
 use Rattle.verdict.specs.declared.Verdict.{Verdict}
 use Rattle.verdict.specs.declared.Verdict.the-variants.{Accepted, Refused}
 
@@ -24,6 +26,11 @@ Says (Accepted c) (sheet g) = Counted c g
 Says (Accepted c) (fault f) = ⊥
 Says (Refused f) (sheet g) = ⊥
 Says (Refused f) (fault e) = f ≡ e
+
+-- what the sheet holds then
+abbrev pub Kept : Outcome → Grammar → Type 0
+Kept (sheet g) h = h ≡ g
+Kept (fault f) h = h ≡ empty
 
 abbrev pub acceptedIn : Verdict → Bool
 acceptedIn (Accepted c) = true
@@ -80,3 +87,8 @@ refusalSentence (Plan p) = planSentence p
 abbrev pub sentenceText : Verdict → List ℕ
 sentenceText (Accepted c) = []
 sentenceText (Refused f) = refusalSentence (f .refusal)
+
+-- all that is printed: a line each
+abbrev pub accountText : Verdict → List ℕ
+accountText (Accepted c) = headText (Accepted c) ++ 10 ∷ (detailText (Accepted c) ++ 10 ∷ [])
+accountText (Refused f) = headText (Refused f) ++ 10 ∷ (detailText (Refused f) ++ 10 ∷ (sentenceText (Refused f) ++ 10 ∷ []))

@@ -1,13 +1,14 @@
 // What was found of a text, in the words that programs print.
 ghost use mathlib.Core.Path.{_≡_};
-ghost use mathlib.Core.List.{[], _++_};
+ghost use mathlib.Core.List.{[], _∷_, _++_};
 ghost use lib.Chars.{codes};
 ghost use Rattle.std.specs.Written.{decimal};
 ghost use Prim.Native.Nat.{ℕ};
 ghost use Rattle.std.specs.Of.String.{string-bytes};
 ghost use Rattle.std.specs.Vec.{made};
 ghost use Rattle.reader.specs.Judgement.{judge};
-ghost use Rattle.verdict.specs.Verdicts.{Says, acceptedIn, headText, layerText, placeText, detailText, planSentence, refusalSentence, sentenceText};
+ghost use Rattle.sheet.specs.Answers.{grammarOf};
+ghost use Rattle.verdict.specs.Verdicts.{Says, Kept, accountText, acceptedIn, headText, layerText, placeText, detailText, planSentence, refusalSentence, sentenceText};
 ghost use Rattle.grammar.specs.declared.refusal.Layer.the-variants.{OfPlan};
 use grammar::Layer;
 use grammar::PlanRule;
@@ -27,7 +28,8 @@ pub enum Verdict {
 impl Verdict {
     // Reads a text into a sheet, and says what came of it.
     pub fn of(sheet: &mut Sheet, text: &[u8]) -> Verdict
-        ensures { λ r. ⌜ Says r (judge (now (text .entry))) ⌝ }
+        ensures says { λ r. ⌜ Says r (judge (now (text .entry))) ⌝ }
+        ensures kept { λ _. ⌜ Kept (judge (now (text .entry))) (grammarOf (now (sheet .exit))) ⌝ }
     {
         match sheet.read(text) {
             Ok(()) => Verdict::Accepted(sheet.counts()),
@@ -64,6 +66,23 @@ impl Verdict {
         }
     }
 
+    // All of it, a line each; for a person.
+    pub fn account(&self, heap: Global) -> Result<String, AllocError>
+        ensures { λ r. ⌜ made r (λ t. string-bytes t ≡ accountText (now (self .entry))) ⌝ }
+    {
+        let head = self.head(heap)?;
+        let detail = self.detail(heap)?;
+        match self {
+            Verdict::Accepted(_) => two_lines(heap, head.as_str(), detail.as_str()),
+            Verdict::Refused(_) => three_lines(
+                heap,
+                head.as_str(),
+                detail.as_str(),
+                self.sentence(),
+            ),
+        }
+    }
+
     // One plain sentence about a refusal; nothing about what was accepted.
     pub fn sentence(&self) -> &'static str
         ensures { λ r. ⌜ now r ≡ sentenceText (now (self .entry)) ⌝ }
@@ -73,6 +92,18 @@ impl Verdict {
             Verdict::Refused(fault) => refusal_sentence(fault.refusal),
         }
     }
+}
+
+fn two_lines(heap: Global, a: &str, b: &str) -> Result<String, AllocError>
+    ensures { λ r. ⌜ made r (λ t. string-bytes t ≡ now (a .entry) ++ 10 ∷ (now (b .entry) ++ 10 ∷ [])) ⌝ }
+{
+    format!(heap, "{a}\n{b}\n")
+}
+
+fn three_lines(heap: Global, a: &str, b: &str, c: &str) -> Result<String, AllocError>
+    ensures { λ r. ⌜ made r (λ t. string-bytes t ≡ now (a .entry) ++ 10 ∷ (now (b .entry) ++ 10 ∷ (now (c .entry) ++ 10 ∷ []))) ⌝ }
+{
+    format!(heap, "{a}\n{b}\n{c}\n")
 }
 
 fn counted(heap: Global, counts: Counts) -> Result<String, AllocError>

@@ -121,6 +121,7 @@ pub struct Line<'a> {
 impl<'a> Words<'a> {
     pub fn next_word(&mut self) -> Option<Placed<'a>>
         ensures word { λ r. ⌜ BySome r (left (now (self .entry)) ≡ []) (λ p. (left (now (self .entry)) ≡ tokenOf (p .word) ∷ left (now (self .exit))) × (p .line ≡ now (self .entry) .line)) ⌝ }
+        ensures ended { λ r. ⌜ BySome r (left (now (self .exit)) ≡ []) (λ _. Unit {0}) ⌝ }
         ensures line { λ _. ⌜ now (self .exit) .line ≡ now (self .entry) .line ⌝ }
     {
         let text = self.rest?;

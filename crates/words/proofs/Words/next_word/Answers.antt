@@ -14,6 +14,7 @@ returns-in-Some c = record {
         ∙ ap (λ (t : Token). t ∷ wordsIn (c .in-Some .after .now)) (sym (c .of .ensures)),
     refl,
   );
+  ended = tt;
   line = refl;
 }
 
@@ -25,5 +26,6 @@ returns-in-None c = record {
         ∙ ap (λ (t : Token). t ∷ []) (sym (c .of-in-None .ensures)),
     refl,
   );
+  ended = tt;
   line = refl;
 }
