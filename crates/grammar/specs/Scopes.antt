@@ -1,4 +1,5 @@
 -- The attributes at the occurrences of one rule.
+use mathlib.Core.Path.{_≡_}
 use mathlib.Core.Bool.{Bool, true, false, _&&_}
 use mathlib.Core.List.{List, [], _∷_, map}
 use Prim.Native.Nat.{ℕ, zero, suc}
@@ -76,6 +77,16 @@ defines σ o a = flows (definedFlow o) (attributeAt σ o a)
 
 abbrev pub takes : Scope → ℕ → ℕ → Bool
 takes σ o a = flows (takenFlow o) (attributeAt σ o a)
+
+-- the rule defines the synthesized attributes of occurrence 0 and the inherited ones of the others
+abbrev pub Defined : Scope → ℕ → ℕ → Type 0
+Defined σ zero a = (j : ℕ) × (attributeAt σ 0 a ≡ Some (record { flow = Synthesized; visit = j }))
+Defined σ (suc k) a = (j : ℕ) × (attributeAt σ (suc k) a ≡ Some (record { flow = Inherited; visit = j }))
+
+-- it may take the inherited attributes of occurrence 0 and the synthesized ones of the others
+abbrev pub TakenAt : Scope → ℕ → ℕ → Type 0
+TakenAt σ zero a = (j : ℕ) × (attributeAt σ 0 a ≡ Some (record { flow = Inherited; visit = j }))
+TakenAt σ (suc k) a = (j : ℕ) × (attributeAt σ (suc k) a ≡ Some (record { flow = Synthesized; visit = j }))
 
 abbrev pub argumentThere : Scope → Argument → Bool
 argumentThere σ Datum = true

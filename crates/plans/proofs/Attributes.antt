@@ -1,7 +1,6 @@
 -- The attributes of an occurrence.
 use mathlib.Core.Path.{_≡_, refl, ap, _∙_}
-use mathlib.Core.Bool.{true}
-use Prim.Native.Nat.{ℕ, _<_}
+use Prim.Native.Nat.{ℕ, zero, suc, _<_}
 use lib.Dec.{eqb}
 use lib.ListN.{length}
 use Rattle.std.specs.Orderings.{Decides}
@@ -11,7 +10,7 @@ use Rattle.std.specs.declared.option.Option.the-variants.{Some, None}
 use Rattle.std.proofs.shelf.Ways.{decides-eqb, decides-and, decides-like}
 use Rattle.grammar.specs.Model.{Symbol}
 use Rattle.grammar.specs.Tests.{andThen}
-use Rattle.grammar.specs.Scopes.{Scope, symbolAt, attributeAt, sameFlow, flows, definedFlow, defines, attributesIn, attributesAt}
+use Rattle.grammar.specs.Scopes.{Scope, symbolAt, attributeAt, sameFlow, flows, defines, takes, Defined, TakenAt, attributesIn, attributesAt}
 use Rattle.grammar.specs.declared.terms.Flow.{Flow}
 use Rattle.grammar.specs.declared.terms.Flow.the-variants.{Inherited, Synthesized}
 use Rattle.grammar.specs.declared.terms.Attribute.{Attribute}
@@ -36,12 +35,9 @@ occurrence-within σ o a x e = by (nth (σ .occurrences) o) refl e
     by (Some s) is h = nth-within (σ .occurrences) o s is
 
 -- a defined attribute is there
-pub defined-there : (σ : Scope) (o a : ℕ) → defines σ o a ≡ true → (x : Attribute) × (attributeAt σ o a ≡ Some x)
-defined-there σ o a h = by (attributeAt σ o a) h
-  where
-    by : (t : Option Attribute) → flows (definedFlow o) t ≡ true → (x : Attribute) × (t ≡ Some x)
-    by None e = never (cc)
-    by (Some x) e = (x, refl)
+pub defined-there : (σ : Scope) (o a : ℕ) → Defined σ o a → (x : Attribute) × (attributeAt σ o a ≡ Some x)
+defined-there σ zero a (j, e) = (record { flow = Synthesized; visit = j }, e)
+defined-there σ (suc k) a (j, e) = (record { flow = Inherited; visit = j }, e)
 
 pub flow-decides : (f g : Flow) → Decides (sameFlow f g) (f ≡ g)
 flow-decides Inherited Inherited = (λ _. refl, λ _. refl)
@@ -59,3 +55,19 @@ attribute-decides f j (Some x) =
     (λ h. ap (λ g. Some (attribute g (x .visit))) (h .0) ∙ ap (λ v. Some (attribute f v)) (h .1))
     (λ h. let same : x ≡ attribute f j = cc in (ap (λ y. y .flow) same, ap (λ y. y .visit) same))
     (decides-and (sameFlow (x .flow) f) (eqb (x .visit) j) (flow-decides (x .flow) f) (decides-eqb (x .visit) j))
+
+flows-decides : (f : Flow) (t : Option Attribute) → Decides (flows f t) ((j : ℕ) × (t ≡ Some (record { flow = f; visit = j })))
+flows-decides f None = (λ h. never (cc), λ h. let e = h .1 in never (cc))
+flows-decides f (Some x) =
+    decides-like _
+    (λ h. (x .visit, ap (λ g. Some (attribute g (x .visit))) h))
+    (λ h. let e = h .1 in let same : x ≡ attribute f (h .0) = cc in ap (λ y. y .flow) same)
+    (flow-decides (x .flow) f)
+
+pub defines-decides : (σ : Scope) (o a : ℕ) → Decides (defines σ o a) (Defined σ o a)
+defines-decides σ zero a = flows-decides Synthesized (attributeAt σ 0 a)
+defines-decides σ (suc k) a = flows-decides Inherited (attributeAt σ (suc k) a)
+
+pub takes-decides : (σ : Scope) (o a : ℕ) → Decides (takes σ o a) (TakenAt σ o a)
+takes-decides σ zero a = flows-decides Inherited (attributeAt σ 0 a)
+takes-decides σ (suc k) a = flows-decides Synthesized (attributeAt σ (suc k) a)

@@ -1,4 +1,4 @@
--- Tests that decide: an implication, an order, a rule that is itself a test.
+-- Tests that decide: an implication, an order.
 use mathlib.Core.Path.{_≡_, refl}
 use mathlib.Core.Bool.{Bool, true, false, not, _||_}
 use Prim.Native.Nat.{ℕ, _≤_}
@@ -10,9 +10,6 @@ use Rattle.std.proofs.shelf.Tests.{leb-true, le-leb}
 -- what follows from an equation that never holds
 pub never : {X : Type 0} → _≡_ {A = ℕ} 0 1 → X
 never e = absurd (omega arith)
-
-pub decides-itself : (t : Bool) → Decides t (t ≡ true)
-decides-itself t = (λ h. h, λ h. h)
 
 pub decides-leb : (a b : ℕ) → Decides (leb a b) (a ≤ b)
 decides-leb a b = (leb-true a b, le-leb a b)

@@ -2,6 +2,7 @@ pub mod Deciding
 pub mod Places
 pub mod Standing
 pub mod TurnOrder
+pub mod TurnsByPlace
 pub mod Attributes
 pub mod Defining
 pub mod Ready

@@ -67,7 +67,7 @@ abbrev pub Once : List Instruction → Instruction → Type 0
 Once plan x = (i : ℕ) × StandsOnce plan i x
 
 -- of a plan that begins with it: it does not stand among the others
-once-first : (x y : Instruction) (is : List Instruction) → x ≡ y → (Somewhere is x → ⊥) → Once (y ∷ is) x
+pub once-first : (x y : Instruction) (is : List Instruction) → x ≡ y → (Somewhere is x → ⊥) → Once (y ∷ is) x
 once-first x y is same apart = (0, (ap Some (sym same), only))
   where
     only : (m : ℕ) → Stands (y ∷ is) m x → m ≡ 0
@@ -78,14 +78,14 @@ once-alone : (x y : Instruction) (is : List Instruction) → x ≡ y → Once (y
 once-alone x y is same (i, (e, only)) (m, s) = let u = only 0 (ap Some (sym same)) in let v = only (suc m) s in omega arith
 
 -- of one that begins with another: it stands once among the others
-once-later : (x y : Instruction) (is : List Instruction) → (x ≡ y → ⊥) → Once is x → Once (y ∷ is) x
+pub once-later : (x y : Instruction) (is : List Instruction) → (x ≡ y → ⊥) → Once is x → Once (y ∷ is) x
 once-later x y is apart (i, (e, only)) = (suc i, (e, one))
   where
     one : (m : ℕ) → Stands (y ∷ is) m x → m ≡ suc i
     one zero s = absurd (apart (cc))
     one (suc m) s = ap suc (only m s)
 
-once-among : (x y : Instruction) (is : List Instruction) → (x ≡ y → ⊥) → Once (y ∷ is) x → Once is x
+pub once-among : (x y : Instruction) (is : List Instruction) → (x ≡ y → ⊥) → Once (y ∷ is) x → Once is x
 once-among x y is apart (zero, (e, only)) = absurd (apart (cc))
 once-among x y is apart (suc i, (e, only)) = (i, (e, λ m s. let u = only (suc m) s in omega arith))
 

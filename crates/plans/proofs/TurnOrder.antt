@@ -1,23 +1,23 @@
 -- The turns of an occurrence, compared with the numbers that they should be.
 use mathlib.Core.Path.{_≡_, refl, sym, ap, _∙_}
 use mathlib.Core.Bool.{Bool, true, false, _&&_}
-use mathlib.Core.List.{List, [], _∷_, _++_, append-assoc}
+use mathlib.Core.List.{List, [], _∷_, _++_}
 use mathlib.Core.Logic.{⊎-elim}
 use Prim.Native.Nat.{ℕ, suc, _+_, _-_, _≤_, _<_}
-use native.Mathlib.Nat.{add-zero}
 use native.Mathlib.Omega.{arith}
 use lib.Dec.{eqb}
-use lib.ListN.{length, getD, take, drop, length-append}
+use lib.ListN.{length, getD, drop}
 use Rattle.std.specs.Options.{isSome}
 use Rattle.std.specs.Vec.{listOf}
 use Rattle.std.specs.declared.option.Option.{Option}
 use Rattle.std.specs.declared.option.Option.the-variants.{Some, None}
 use Rattle.std.specs.shelf.Text.{sameBytes}
-use Rattle.std.proofs.shelf.Lists.{take-more, at-drop-more, at-drop-all}
+use Rattle.std.proofs.shelf.Lists.{at-drop-more, at-drop-all}
 use Rattle.std.proofs.shelf.Tests.{cases-lt, eq-eqb, ne-eqb}
 use Rattle.grammar.specs.declared.terms.Instruction.{Instruction}
 use Rattle.grammar.specs.declared.terms.Instruction.the-variants.{Evaluate, Visit, Return}
-use Rattle.plans.specs.PlanRules.{keepIf, visitTurn, turnsOf, numbersFrom}
+use Rattle.plans.specs.PlanRules.{isReturn}
+use Rattle.plans.specs.PlanTests.{keepIf, visitTurn, turnsOf, numbersFrom}
 use Rattle.plans.proofs.Deciding.{never}
 
 kept-first : (t : Bool) (j : ℕ) (js : List ℕ) → keepIf t j js ≡ keepIf t j [] ++ js
@@ -30,41 +30,14 @@ turns-first k (Evaluate o a) is = refl
 turns-first k (Visit o j) is = kept-first (visitTurn k o) j (turnsOf k is)
 turns-first k (Return j) is = kept-first (eqb 0 k) j (turnsOf k is)
 
-turns-append : (k : ℕ) (xs ys : List Instruction) → turnsOf k (xs ++ ys) ≡ turnsOf k xs ++ turnsOf k ys
-turns-append k [] ys = refl
-turns-append k (x ∷ xs) ys =
-    turns-first k x (xs ++ ys)
-    ∙ ap (λ ts. turnsOf k (x ∷ []) ++ ts) (turns-append k xs ys)
-    ∙ sym (append-assoc (turnsOf k (x ∷ [])) (turnsOf k xs) (turnsOf k ys))
-    ∙ ap (λ ts. ts ++ turnsOf k ys) (sym (turns-first k x xs))
-
--- how many turns there are before place i
-abbrev pub turnsBefore : ℕ → List Instruction → ℕ → ℕ
-turnsBefore k plan i = length (turnsOf k (take i plan))
-
-pub turns-more : (k : ℕ) (plan : List Instruction) (i : ℕ) (d : Instruction) → i < length plan → turnsBefore k plan (i + 1) ≡ turnsBefore k plan i + length (turnsOf k (getD plan i d ∷ []))
-turns-more k plan i d h =
-    ap (λ is. length (turnsOf k is)) (take-more plan i d h)
-    ∙ ap length (turns-append k (take i plan) (getD plan i d ∷ []))
-    ∙ length-append (turnsOf k (take i plan)) (turnsOf k (getD plan i d ∷ []))
-
-length-some : (o : Option ℕ) → isSome o ≡ true → length (listOf o) ≡ 1
-length-some None h = never (cc)
-length-some (Some j) h = refl
-
-length-none : (o : Option ℕ) → isSome o ≡ false → length (listOf o) ≡ 0
-length-none None h = refl
-length-none (Some j) h = never (cc)
-
--- place i is a turn, or is none
-pub count-turn : (k : ℕ) (plan : List Instruction) (i : ℕ) (d : Instruction) (o : Option ℕ) → i < length plan → listOf o ≡ turnsOf k (getD plan i d ∷ []) → isSome o ≡ true → turnsBefore k plan (i + 1) ≡ turnsBefore k plan i + 1
-count-turn k plan i d o h e is = turns-more k plan i d h ∙ ap (λ n. turnsBefore k plan i + n) (ap length (sym e) ∙ length-some o is)
-
-pub count-other : (k : ℕ) (plan : List Instruction) (i : ℕ) (d : Instruction) (o : Option ℕ) → i < length plan → listOf o ≡ turnsOf k (getD plan i d ∷ []) → isSome o ≡ false → turnsBefore k plan (i + 1) ≡ turnsBefore k plan i
-count-other k plan i d o h e is = turns-more k plan i d h ∙ ap (λ n. turnsBefore k plan i + n) (ap length (sym e) ∙ length-none o is) ∙ add-zero (turnsBefore k plan i)
-
-pub count-evaluation : (k : ℕ) (plan : List Instruction) (i : ℕ) (d : Instruction) (o a : ℕ) → i < length plan → getD plan i d ≡ Evaluate o a → turnsBefore k plan (i + 1) ≡ turnsBefore k plan i
-count-evaluation k plan i d o a h e = count-other k plan i d None h (ap (λ x. turnsOf k (x ∷ [])) (sym e)) refl
+-- turn_of's answer at the left occurrence tells a return
+pub turn-return : (x : Instruction) (o : Option ℕ) → listOf o ≡ turnsOf 0 (x ∷ []) → isReturn x ≡ isSome o
+turn-return (Evaluate p a) None e = refl
+turn-return (Evaluate p a) (Some i) e = never (cc)
+turn-return (Visit k j) None e = refl
+turn-return (Visit k j) (Some i) e = never (cc)
+turn-return (Return j) None e = never (cc)
+turn-return (Return j) (Some i) e = refl
 
 -- of the numbers 1 to n, those after m
 numbers-more : (m n : ℕ) → m < n → numbersFrom (m + 1) (n - m) ≡ (m + 1) ∷ numbersFrom (m + 1 + 1) (n - (m + 1))

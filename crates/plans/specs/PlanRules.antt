@@ -3,15 +3,14 @@ use mathlib.Core.Path.{_≡_}
 use mathlib.Core.Bool.{Bool, true, false}
 use mathlib.Core.List.{List, [], _∷_, _++_}
 use Prim.Native.Nat.{ℕ, zero, suc, _≤_, _<_}
-use lib.Dec.{eqb}
 use lib.ListN.{length, take}
-use Rattle.std.specs.shelf.Lists.{All}
+use Rattle.std.specs.shelf.Lists.{All, countBy}
 use Rattle.std.specs.shelf.Maps.{nth}
 use Rattle.std.specs.declared.option.Option.{Option}
 use Rattle.std.specs.declared.option.Option.the-variants.{Some, None}
 use Rattle.grammar.specs.Model.{Equation}
 use Rattle.grammar.specs.Refusals.{ruleNumber}
-use Rattle.grammar.specs.Scopes.{Scope, visitsAt, attributeAt, defines}
+use Rattle.grammar.specs.Scopes.{Scope, visitsAt, attributeAt, Defined}
 use Rattle.grammar.specs.declared.terms.Flow.the-variants.{Inherited, Synthesized}
 use Rattle.grammar.specs.declared.terms.Attribute.{Attribute}
 use Rattle.grammar.specs.declared.terms.Argument.{Argument}
@@ -36,48 +35,35 @@ Before plan i x = (m : ℕ) × (m < i) × Stands plan m x
 abbrev pub EndsWith : List Instruction → Instruction → Type 0
 EndsWith plan x = (before : List Instruction) × (plan ≡ before ++ x ∷ [])
 
-abbrev pub keepIf : Bool → ℕ → List ℕ → List ℕ
-keepIf true j js = j ∷ js
-keepIf false j js = js
+-- the turns t 1 to t n stand once each, in order, and no other turn t j stands
+pub record InTurn (plan : List Instruction) (t : ℕ → Instruction) (n : ℕ) : Type 0 where
+  pub each : (j : ℕ) → 1 ≤ j → j ≤ n → (i : ℕ) × StandsOnce plan i (t j)
+  pub ordered : (i m j l : ℕ) → Stands plan i (t j) → Stands plan m (t l) → j < l → i < m
+  pub none-other : (i j : ℕ) → Stands plan i (t j) → (1 ≤ j) × (j ≤ n)
 
--- a visit to occurrence o is a turn of occurrence k, which is a right one
-abbrev pub visitTurn : ℕ → ℕ → Bool
-visitTurn zero o = false
-visitTurn (suc k) o = eqb o (suc k)
+abbrev pub isReturn : Instruction → Bool
+isReturn (Evaluate o a) = false
+isReturn (Visit k j) = false
+isReturn (Return j) = true
 
--- the turns of occurrence k in the order of the plan: the visits to a right occurrence, the returns of the left one
-abbrev pub turnsOf : ℕ → List Instruction → List ℕ
-turnsOf k [] = []
-turnsOf k (Evaluate o a ∷ is) = turnsOf k is
-turnsOf k (Visit o j ∷ is) = keepIf (visitTurn k o) j (turnsOf k is)
-turnsOf k (Return j ∷ is) = keepIf (eqb 0 k) j (turnsOf k is)
-
--- n numbers from k on
-abbrev pub numbersFrom : ℕ → ℕ → List ℕ
-numbersFrom k zero = []
-numbersFrom k (suc n) = k ∷ numbersFrom (suc k) n
-
--- the turns of an occurrence are 1 to its number of visits, once each, in order
-abbrev pub InOrder : Scope → List Instruction → ℕ → Type 0
-InOrder σ plan k = turnsOf k plan ≡ numbersFrom 1 (visitsAt σ k)
-
--- segment j of a plan ends with its return j: the number of the segment in which place i lies
+-- the number of the segment in which place i lies: segment j ends with return j, so it is one more than the returns that
+-- stand before place i
 abbrev pub segmentAt : List Instruction → ℕ → ℕ
-segmentAt plan i = suc (length (turnsOf 0 (take i plan)))
+segmentAt plan i = suc (countBy isReturn (take i plan))
 
 -- The returns are 1 to the left symbol's number of visits, in order, and the last one ends the plan.
 abbrev pub Returns-in-order : Scope → List Instruction → Type 0
-Returns-in-order σ plan = InOrder σ plan 0 × EndsWith plan (Return (visitsAt σ 0))
+Returns-in-order σ plan = InTurn plan Return (visitsAt σ 0) × EndsWith plan (Return (visitsAt σ 0))
 
 -- Each attribute that the rule defines is evaluated at exactly one place, and no other attribute is evaluated.
 abbrev pub One-evaluation : Scope → List Instruction → Type 0
 One-evaluation σ plan =
-    ((o a : ℕ) → defines σ o a ≡ true → (i : ℕ) × StandsOnce plan i (Evaluate o a))
-    × ((i o a : ℕ) → Stands plan i (Evaluate o a) → defines σ o a ≡ true)
+    ((o a : ℕ) → Defined σ o a → (i : ℕ) × StandsOnce plan i (Evaluate o a))
+    × ((i o a : ℕ) → Stands plan i (Evaluate o a) → Defined σ o a)
 
 -- All visits of each right occurrence stand once each, in order.
 abbrev pub Visits-in-order : Scope → List Instruction → Type 0
-Visits-in-order σ plan = (k : ℕ) → 1 ≤ k → k < length (σ .occurrences) → InOrder σ plan k
+Visits-in-order σ plan = (k : ℕ) → 1 ≤ k → k < length (σ .occurrences) → InTurn plan (Visit k) (visitsAt σ k)
 
 -- A visit stands after the evaluation of every inherited attribute of that visit.
 abbrev pub Inherited-before-visit : Scope → List Instruction → Type 0

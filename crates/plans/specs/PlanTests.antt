@@ -20,7 +20,7 @@ use Rattle.grammar.specs.declared.terms.Instruction.{Instruction}
 use Rattle.grammar.specs.declared.terms.Instruction.the-variants.{Evaluate, Visit, Return}
 use Rattle.grammar.specs.declared.refusal.PlanRule.{PlanRule}
 use Rattle.grammar.specs.declared.refusal.PlanRule.the-variants.{ReturnsInOrder, OneEvaluation, VisitsInOrder, InheritedBeforeVisit, SynthesizedBeforeReturn, ArgumentsFirst}
-use Rattle.plans.specs.PlanRules.{turnsOf, numbersFrom, segmentAt}
+use Rattle.plans.specs.PlanRules.{InTurn, segmentAt}
 
 abbrev pub sameInstruction : Instruction → Instruction → Bool
 sameInstruction (Evaluate o a) (Evaluate p b) = eqb o p && eqb a b
@@ -53,8 +53,34 @@ endsWith x [] = false
 endsWith x (y ∷ []) = sameInstruction x y
 endsWith x (y ∷ z ∷ is) = endsWith x (z ∷ is)
 
+abbrev pub keepIf : Bool → ℕ → List ℕ → List ℕ
+keepIf true j js = j ∷ js
+keepIf false j js = js
+
+-- a visit to occurrence o is a turn of occurrence k, which is a right one
+abbrev pub visitTurn : ℕ → ℕ → Bool
+visitTurn zero o = false
+visitTurn (suc k) o = eqb o (suc k)
+
+-- the turns of occurrence k in the order of the plan: the visits to a right occurrence, the returns of the left one
+abbrev pub turnsOf : ℕ → List Instruction → List ℕ
+turnsOf k [] = []
+turnsOf k (Evaluate o a ∷ is) = turnsOf k is
+turnsOf k (Visit o j ∷ is) = keepIf (visitTurn k o) j (turnsOf k is)
+turnsOf k (Return j ∷ is) = keepIf (eqb 0 k) j (turnsOf k is)
+
+-- n numbers from k on
+abbrev pub numbersFrom : ℕ → ℕ → List ℕ
+numbersFrom k zero = []
+numbersFrom k (suc n) = k ∷ numbersFrom (suc k) n
+
 abbrev pub inOrder : Scope → List Instruction → ℕ → Bool
 inOrder σ plan k = sameBytes (turnsOf k plan) (numbersFrom 1 (visitsAt σ k))
+
+-- what it tests: the turns of an occurrence are 1 to its number of visits, once each, in order
+abbrev pub TurnsInOrder : Scope → List Instruction → ℕ → Type 0
+TurnsInOrder σ plan zero = InTurn plan Return (visitsAt σ 0)
+TurnsInOrder σ plan (suc k) = InTurn plan (Visit (suc k)) (visitsAt σ (suc k))
 
 abbrev pub evaluatesDefined : Scope → Instruction → Bool
 evaluatesDefined σ (Evaluate o a) = defines σ o a

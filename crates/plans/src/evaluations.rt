@@ -1,9 +1,8 @@
 // The evaluations of a plan: each attribute that the rule defines once, and no other.
 ghost use mathlib.Core.Path.{_≡_};
-ghost use mathlib.Core.Bool.{true};
 ghost use Prim.Native.Nat.{ℕ};
 ghost use Rattle.std.specs.Orderings.{Decides};
-ghost use Rattle.grammar.specs.Scopes.{sameFlow, definedFlow, defines};
+ghost use Rattle.grammar.specs.Scopes.{sameFlow, definedFlow, Defined};
 ghost use Rattle.grammar.specs.declared.terms.Instruction.the-variants.{Evaluate};
 ghost use Rattle.plans.specs.Groups.{groupScope, groupPlan};
 ghost use Rattle.plans.specs.PlanRules.{StandsOnce, One-evaluation};
@@ -25,7 +24,7 @@ fn defined(flow: Flow, occurrence: usize) -> bool
 impl<'a> Group<'a> {
     // Whether each attribute of an occurrence that the rule defines is evaluated at one place.
     fn each_once(&self, occurrence: usize) -> bool
-        ensures { λ r. ⌜ Decides r ((a : ℕ) → defines (groupScope (now (self .entry))) occurrence a ≡ true → (i : ℕ) × StandsOnce (groupPlan (now (self .entry))) i (Evaluate occurrence a)) ⌝ }
+        ensures { λ r. ⌜ Decides r ((a : ℕ) → Defined (groupScope (now (self .entry))) occurrence a → (i : ℕ) × StandsOnce (groupPlan (now (self .entry))) i (Evaluate occurrence a)) ⌝ }
     {
         for (a, attribute) in self.production.attributes(occurrence).iter().enumerate() {
             if defined(attribute.flow, occurrence) && !evaluated_once(self.plan, occurrence, a) {

@@ -6,7 +6,8 @@ ghost use Rattle.grammar.specs.declared.terms.Instruction.the-variants.{Return}
 ghost use Rattle.std.specs.Orderings.{Decides};
 ghost use Rattle.std.specs.Vec.{listOf};
 ghost use Rattle.plans.specs.Groups.{groupScope, groupPlan};
-ghost use Rattle.plans.specs.PlanRules.{turnsOf, InOrder, EndsWith, Returns-in-order, Visits-in-order};
+ghost use Rattle.plans.specs.PlanRules.{EndsWith, Returns-in-order, Visits-in-order};
+ghost use Rattle.plans.specs.PlanTests.{turnsOf, TurnsInOrder};
 use super::Group;
 use grammar::Instruction;
 
@@ -33,7 +34,7 @@ fn is_return(x: Instruction, j: u16) -> bool
 impl<'a> Group<'a> {
     // Whether the turns of an occurrence are 1 to its number of visits, once each, in order.
     fn in_order(&self, occurrence: usize) -> bool
-        ensures { λ r. ⌜ Decides r (InOrder (groupScope (now (self .entry))) (groupPlan (now (self .entry))) occurrence) ⌝ }
+        ensures { λ r. ⌜ Decides r (TurnsInOrder (groupScope (now (self .entry))) (groupPlan (now (self .entry))) occurrence) ⌝ }
     {
         let visits = self.production.visits(occurrence);
         let mut done = 0u16;

@@ -22,6 +22,7 @@ use Rattle.reader.specs.Steps.{Open, State, nothing, isEmpty, allowed, faultOf,
 use Rattle.reader.specs.Judgement.{judge, judgeFrom, ofLength}
 use Rattle.reader.specs.Judgement.Outcome.{sheet}
 use Rattle.sheet.specs.Writing.{symbolLineOf, groupOf, linesOf}
+use Rattle.plans.proofs.Attributes.{defines-decides}
 use Rattle.sheet.specs.Meaning.{Sound-symbol, Start-symbol, scopeOf-rule, Sound-equation, Sound-rule, setsIn, instructionsIn, Sound, Sheet-of}
 use Rattle.sheet.proofs.Statements.{kind, Writable, Runs}
 use Rattle.sheet.proofs.Statements.Runs.{done, more}
@@ -76,7 +77,7 @@ module _ (ss : List Symbol) (sound : All Sound-symbol ss) (rules : List Rule) (l
       (set-passes (scopeHere ss (opened l rs all)) before n q (record {
         small-function = h .0 .small-function;
         room = omega arith;
-        target = h .0 .target;
+        target = defines-decides (scopeHere ss (opened l rs all)) (q .occurrence) (q .attribute) .1 (h .0 .target);
         fresh = apart-fresh before q rest (subst Apart e apart);
         arguments-taken = h .0 .arguments-taken;
       }))
@@ -91,7 +92,7 @@ sound-apart ss r h p q e f sp sq oc at =
 
 sound-complete : (ss : List Symbol) (r : Rule) → Sound-rule ss r → Complete (scopeOf-rule ss r) (r .equations)
 sound-complete ss r h o a d =
-    let q = h .one-equation o a d in
+    let q = h .one-equation o a (defines-decides (scopeOf-rule ss r) o a .0 d) in
     record { place = q .0; equation = q .1 .equation; stands = q .1 .stands; occurrence-is = q .1 .occurrence-is; attribute-is = q .1 .attribute-is }
 
 some-plan : (ss : List Symbol) (r : Rule) → Sound-rule ss r → 0 < length (r .plan)

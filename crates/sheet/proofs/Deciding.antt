@@ -25,6 +25,7 @@ use Rattle.grammar.specs.declared.terms.Instruction.{Instruction}
 use Rattle.grammar.specs.declared.terms.Instruction.the-variants.{Evaluate, Visit, Return}
 use Rattle.plans.specs.PlanTests.{targets}
 use Rattle.lines.specs.Faults.{hasTarget, rightVisit, complete}
+use Rattle.plans.proofs.Attributes.{takes-decides}
 use Rattle.sheet.specs.Meaning.{Taken, There}
 use Rattle.sheet.proofs.Places.{nth-below}
 
@@ -70,11 +71,11 @@ defined-there σ o a h = flows-some (definedFlow o) (attributeAt σ o a) h
 
 pub taken-there : (σ : Scope) (x : Argument) → Taken σ x → argumentThere σ x ≡ true
 taken-there σ Datum h = refl
-taken-there σ (Of o a) h = flows-some (takenFlow o) (attributeAt σ o a) h
+taken-there σ (Of o a) h = flows-some (takenFlow o) (attributeAt σ o a) (takes-decides σ o a .1 h)
 
 pub decides-taken : (σ : Scope) (x : Argument) → Decides (argumentTaken σ x) (Taken σ x)
 decides-taken σ Datum = ((λ h. tt), (λ h. refl))
-decides-taken σ (Of o a) = ((λ h. h), (λ h. h))
+decides-taken σ (Of o a) = takes-decides σ o a
 
 -- instructions
 there-from : (σ : Scope) (x : Instruction) → rightVisit x ≡ true → instructionThere σ x ≡ true → There σ x

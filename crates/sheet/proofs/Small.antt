@@ -17,6 +17,7 @@ use Rattle.grammar.specs.declared.terms.Argument.the-variants.{Datum, Of}
 use Rattle.grammar.specs.declared.terms.Instruction.{Instruction}
 use Rattle.grammar.specs.declared.terms.Instruction.the-variants.{Evaluate, Visit, Return}
 use Rattle.lines.specs.LineKinds.Line.{symbolLine, ruleLine, setLine, planLine}
+use Rattle.plans.proofs.Attributes.{defines-decides}
 use Rattle.sheet.specs.Meaning.{Sound-symbol, Taken, Sound-equation, There}
 use Rattle.sheet.proofs.Statements.{SmallArgument, SmallInstruction, Writable}
 use Rattle.sheet.proofs.Places.{nth-below, all-nth}
@@ -56,7 +57,7 @@ module _ (σ : Scope) (sound : All Sound-symbol (σ .symbols)) (few : length (σ
 
   pub equation-small : (e : Equation) → Sound-equation σ e → Writable (setLine e)
   equation-small e h =
-      let s = is-some (attributeAt σ (e .occurrence) (e .attribute)) (defined-there σ (e .occurrence) (e .attribute) (h .target)) in
+      let s = is-some (attributeAt σ (e .occurrence) (e .attribute)) (defined-there σ (e .occurrence) (e .attribute) (defines-decides σ (e .occurrence) (e .attribute) .1 (h .target))) in
       (attribute-small (e .occurrence) (e .attribute) (s .0) (s .1), omega arith, h .few-arguments, all-weaker (Taken σ) SmallArgument argument-small (e .arguments) (h .arguments-taken))
 
   instruction-small : (x : Instruction) → There σ x → SmallInstruction x

@@ -16,6 +16,7 @@ use Rattle.std.proofs.shelf.Lists.{append-nil, length-push, map-push, joined-mo
 use Rattle.std.proofs.shelf.Sums.{sumBy-push}
 use Rattle.grammar.specs.Model.{Symbol, Equation, Rule, Grammar}
 use Rattle.grammar.specs.Scopes.{Scope, defines}
+use Rattle.plans.proofs.Attributes.{defines-decides}
 use Rattle.grammar.specs.declared.terms.Instruction.{Instruction}
 use Rattle.plans.specs.Groups.{Tests-tell}
 use Rattle.lines.specs.LineKinds.{Line}
@@ -174,7 +175,7 @@ keep-set ss rules o n k e few c h = record {
     left-there = h .open-sound .left-there;
     few-right = h .open-sound .few-right;
     right-there = h .open-sound .right-there;
-    equations-sound = all-push (Sound-equation (scopeHere ss o)) (o .equations) e (h .open-sound .equations-sound) (record { small-function = c .small-function; few-arguments = few; target = c .target; arguments-taken = c .arguments-taken });
+    equations-sound = all-push (Sound-equation (scopeHere ss o)) (o .equations) e (h .open-sound .equations-sound) (record { small-function = c .small-function; few-arguments = few; target = defines-decides (scopeHere ss o) (e .occurrence) (e .attribute) .0 (c .target); arguments-taken = c .arguments-taken });
     apart = apart-push (o .equations) e (h .open-sound .apart) (c .fresh);
   };
   sets-are = let z : n ≡ setsIn rules + length (o .equations) = h .sets-are in omega (arith, length-push (o .equations) e);
@@ -203,7 +204,7 @@ keep-plan ss rules o n k is c h = record {
     few-right = h .open-sound .few-right;
     right-there = h .open-sound .right-there;
     equations-sound = h .open-sound .equations-sound;
-    one-equation = one-from (scopeHere ss o) (o .equations) (h .open-sound .apart) (c .all-defined);
+    one-equation = λ p a d. one-from (scopeHere ss o) (o .equations) (h .open-sound .apart) (c .all-defined) p a (defines-decides (scopeHere ss o) p a .1 d);
     instructions-there = c .instructions-there;
     planned = c .planned;
   });

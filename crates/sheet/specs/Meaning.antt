@@ -1,6 +1,5 @@
 -- What a grammar has to meet, rule by rule.
 use mathlib.Core.Path.{_≡_}
-use mathlib.Core.Bool.{true}
 use mathlib.Core.List.{List, [], _∷_, _++_}
 use Prim.Native.Nat.{ℕ, _≤_, _<_}
 use lib.ListN.{length}
@@ -9,7 +8,7 @@ use Rattle.std.specs.shelf.Maps.{nth}
 use Rattle.std.specs.declared.option.Option.{Option}
 use Rattle.std.specs.declared.option.Option.the-variants.{Some, None}
 use Rattle.grammar.specs.Model.{Symbol, Equation, Rule, Grammar}
-use Rattle.grammar.specs.Scopes.{Scope, visitsAt, attributeAt, defines, takes}
+use Rattle.grammar.specs.Scopes.{Scope, visitsAt, attributeAt, Defined, TakenAt}
 use Rattle.grammar.specs.declared.terms.Flow.the-variants.{Synthesized}
 use Rattle.grammar.specs.declared.terms.Attribute.{Attribute}
 use Rattle.grammar.specs.declared.terms.Argument.{Argument}
@@ -42,13 +41,13 @@ scopeOf-rule symbols r = record { symbols = symbols; occurrences = r .left ∷ r
 -- the datum, an inherited attribute of the left occurrence, or a synthesized one of a right occurrence
 abbrev pub Taken : Scope → Argument → Type 0
 Taken σ Datum = Unit {0}
-Taken σ (Of o a) = takes σ o a ≡ true
+Taken σ (Of o a) = TakenAt σ o a
 
 -- an equation is for an attribute that its rule defines
 pub record Sound-equation (σ : Scope) (e : Equation) : Type 0 where
   pub small-function : e .function ≤ 255
   pub few-arguments : length (e .arguments) ≤ 3
-  pub target : defines σ (e .occurrence) (e .attribute) ≡ true
+  pub target : Defined σ (e .occurrence) (e .attribute)
   pub arguments-taken : All (Taken σ) (e .arguments)
 
 -- equation number q is the only one for attribute a of occurrence o
@@ -71,7 +70,7 @@ pub record Sound-rule (symbols : List Symbol) (r : Rule) : Type 0 where
   pub right-there : All (λ x. x < length symbols) (r .right)
   pub equations-sound : All (Sound-equation (scopeOf-rule symbols r)) (r .equations)
   -- each attribute that the rule defines has exactly one equation
-  pub one-equation : (o a : ℕ) → defines (scopeOf-rule symbols r) o a ≡ true → (q : ℕ) × Only-equation (r .equations) q o a
+  pub one-equation : (o a : ℕ) → Defined (scopeOf-rule symbols r) o a → (q : ℕ) × Only-equation (r .equations) q o a
   pub instructions-there : All (There (scopeOf-rule symbols r)) (r .plan)
   pub planned : Planned (scopeOf-rule symbols r) (r .equations) (r .plan)
 

@@ -3,14 +3,15 @@ use Prim.Native.Nat.{_+_}
 use native.Mathlib.Omega.{arith}
 use Rattle.std.specs.shelf.Lists.{All}
 use Rattle.std.proofs.shelf.Ways.{decides-at, not-from-decides}
+use Rattle.std.proofs.shelf.Sums.{countBy-more-yes, countBy-more-no}
 use Rattle.grammar.specs.Rows.{equationOf}
 use Rattle.plans.specs.Groups.{groupScope, groupEquations}
-use Rattle.plans.specs.PlanRules.{Known}
+use Rattle.plans.specs.PlanRules.{Known, isReturn}
 use Rattle.plans.proofs.Deciding.{shown, refuted}
 use Rattle.plans.proofs.Places.{upto-more, upto-read, upto-all, upto-here, here-read, all-throughout, throughout-all}
 use Rattle.plans.proofs.Ready.{Follows, EvaluationReady, evaluation-from, evaluation-at, known-decides}
 use Rattle.plans.proofs.Telling.{arguments-from, arguments-at}
-use Rattle.plans.proofs.TurnOrder.{count-turn, count-other, count-evaluation}
+use Rattle.plans.proofs.TurnOrder.{turn-return}
 use Rattle.plans.proofs.Group.arguments_first.Needs as need
 use Rattle.plans.proofs.Group.arguments_first.Needs.{in-Evaluate·else-loop-equation-test, in-rest·then-is-some, in-rest·else-is-some, then-equation-o·then-equation-a·else-loop-argument-test, else-equation-o, else-equation-o·by·then-equation-o·else-equation-a, else-equation-o·by·else-equation-o}
 
@@ -45,17 +46,17 @@ loop-i-again c =
     elim (c .match-x .came) [
       | in-Evaluate·else-loop-equation-test w ↦ (
         ready (evaluation-from σ (c .args .self .now .equations .now) plan i _ (w .in-Evaluate .o) (w .in-Evaluate .a) (w .in-Evaluate .is) (upto-all _ _ _ (w .loop-equation-test .left) (w .loop-equation .inv))),
-        w .returns-is ∙ c .loop-i .inv .1 ∙ sym (count-evaluation 0 plan i _ _ _ (c .loop-i-test .taken) (w .in-Evaluate .is)),
+        w .returns-is ∙ c .loop-i .inv .1 ∙ sym (countBy-more-no isReturn plan i _ (c .loop-i-test .taken) (ap isReturn (w .in-Evaluate .is))),
         omega arith,
       )
       | in-rest·then-is-some w ↦ (
         ready (λ o a e. absurd (w .in-rest .not-Evaluate o a e)),
-        w .returns-is ∙ ap (λ n. n + 1) (c .loop-i .inv .1) ∙ sym (count-turn 0 plan i _ _ (c .loop-i-test .taken) (w .turn-of .ensures) (sym (w .is-some .ensures) ∙ w .if-is-some .taken)),
+        w .returns-is ∙ ap (λ n. n + 1) (c .loop-i .inv .1) ∙ sym (countBy-more-yes isReturn plan i _ (c .loop-i-test .taken) (turn-return _ _ (w .turn-of .ensures) ∙ sym (w .is-some .ensures) ∙ w .if-is-some .taken)),
         omega arith,
       )
       | in-rest·else-is-some w ↦ (
         ready (λ o a e. absurd (w .in-rest .not-Evaluate o a e)),
-        w .returns-is ∙ c .loop-i .inv .1 ∙ sym (count-other 0 plan i _ _ (c .loop-i-test .taken) (w .turn-of .ensures) (sym (w .is-some .ensures) ∙ w .if-is-some .left)),
+        w .returns-is ∙ c .loop-i .inv .1 ∙ sym (countBy-more-no isReturn plan i _ (c .loop-i-test .taken) (turn-return _ _ (w .turn-of .ensures) ∙ sym (w .is-some .ensures) ∙ w .if-is-some .left)),
         omega arith,
       )
     ]

@@ -6,7 +6,7 @@ use lib.ListN.{drop}
 use Rattle.std.specs.shelf.Text.{sameBytes}
 use Rattle.std.proofs.shelf.Ways.{decides-at}
 use Rattle.grammar.specs.Scopes.{scopeOf}
-use Rattle.plans.specs.PlanRules.{numbersFrom, turnsOf}
+use Rattle.plans.specs.PlanTests.{numbersFrom, turnsOf}
 use Rattle.plans.proofs.Telling.{order-decides}
 use Rattle.plans.proofs.TurnOrder.{orderFrom, order-none, order-other, order-more, order-wrong, order-over, order-end}
 use Rattle.plans.proofs.Group.in_order.Needs as need
