@@ -1,6 +1,5 @@
 -- What a read of an element gives, and what a word's first byte says.
 use mathlib.Core.Path.{_≡_, refl, sym, ap, _∙_}
-use mathlib.Core.Bool.{true, false}
 use mathlib.Core.List.{List, [], _∷_, map}
 use Prim.Native.Nat.{ℕ, zero, suc, _-_, _≤_, _<_}
 use native.Mathlib.Omega.{arith}
@@ -14,8 +13,8 @@ use Rattle.std.specs.declared.option.Option.the-variants.{Some, None}
 use Rattle.std.proofs.shelf.Lists.{take-rest}
 use Rattle.std.proofs.shelf.Maps.{nth-past, nth-getD}
 use Rattle.std.proofs.shelf.Ways.{tells}
-use Rattle.words.specs.Numbers.{numberIn, pairIn}
-use Rattle.grammar.specs.Forms.{instructionIn, evaluateOf, visitOf, returnOf}
+use Rattle.words.specs.Numbers.{pairIn}
+use Rattle.grammar.specs.Forms.{instructionIn, evaluateOf, visitOf}
 
 pub item-nth : {X : Type 0} (xs : List X) (i : ℕ) (r : Option (RefT X)) → Item xs i i r → mapped (λ x. x .now) r ≡ nth xs i
 item-nth xs i None h = sym (nth-past xs i (h .3))

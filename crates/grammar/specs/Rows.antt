@@ -1,6 +1,4 @@
 -- What the rows of the tables mean.
-use mathlib.Core.List.{List, map}
-use Prim.Native.Nat.{ℕ}
 use Rattle.grammar.specs.Listed.{listed}
 use Rattle.grammar.specs.Model.{Symbol, Equation}
 use Rattle.grammar.specs.declared.rows.SymbolRow.{SymbolRow}

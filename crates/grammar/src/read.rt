@@ -1,7 +1,5 @@
 // What words say, and lists of such words.
 ghost use mathlib.Core.Path.{_≡_};
-ghost use mathlib.Core.List.{List};
-ghost use Prim.Native.Nat.{ℕ};
 ghost use Rattle.std.specs.declared.option.Option.{Option};
 ghost use Rattle.words.specs.Tokens.{Token, tokenOf, numberOf};
 ghost use Rattle.words.specs.Left.{left};

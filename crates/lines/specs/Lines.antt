@@ -1,5 +1,5 @@
 -- What the lines of a sheet say.
-use mathlib.Core.Bool.{Bool, true, false, cond}
+use mathlib.Core.Bool.{cond}
 use mathlib.Core.List.{List, [], _∷_}
 use Prim.Native.Nat.{ℕ}
 use lib.Chars.{codes}
@@ -10,8 +10,6 @@ use Rattle.std.specs.declared.result.Result.{Result}
 use Rattle.std.specs.declared.result.Result.the-variants.{Ok, Err}
 use Rattle.words.specs.Tokens.{Token, numberOf, pairWord}
 use Rattle.grammar.specs.Forms.{attributeWord, argumentWord, instructionWord, allOf, atMost}
-use Rattle.grammar.specs.Model.{Equation}
-use Rattle.grammar.specs.declared.terms.Attribute.{Attribute}
 use Rattle.grammar.specs.declared.terms.Argument.{Argument}
 use Rattle.grammar.specs.declared.terms.Instruction.{Instruction}
 use Rattle.grammar.specs.declared.refusal.Refusal.{Refusal}

@@ -1,7 +1,6 @@
 // Conditions on the words of a line, each asked of every word.
 ghost use mathlib.Core.Path.{_≡_};
 ghost use mathlib.Core.Bool.{Bool};
-ghost use Prim.Native.Nat.{ℕ};
 ghost use lib.Dec.{ltb};
 ghost use Rattle.grammar.specs.Tests.{every};
 ghost use Rattle.grammar.specs.Scopes.{scopeOf, argumentThere, argumentTaken, instructionThere};

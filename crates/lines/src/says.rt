@@ -1,7 +1,5 @@
 // What the words of a line say.
 ghost use mathlib.Core.Path.{_≡_};
-ghost use Prim.Native.Nat.{ℕ};
-ghost use lib.Chars.{codes};
 ghost use Rattle.std.specs.shelf.Text.{sameBytes};
 ghost use Rattle.words.specs.Left.{left};
 ghost use Rattle.lines.specs.Lines.{keyIn, symbolIn, ruleIn, setIn};

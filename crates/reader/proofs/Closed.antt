@@ -1,24 +1,23 @@
 -- A rule is closed by its plan.
-use mathlib.Core.Path.{_≡_, refl, sym, ap, subst, _∙_}
-use mathlib.Core.Bool.{Bool, true, false, _&&_}
+use mathlib.Core.Path.{_≡_, refl, sym, ap, _∙_}
+use mathlib.Core.Bool.{Bool, true}
 use mathlib.Core.List.{List, [], _∷_, _++_, map, append-nil}
 use Prim.Native.Nat.{ℕ, _+_, _-_, _≤_, _<_}
 use native.Mathlib.Omega.{arith}
-use lib.Dec.{leb, ltb}
-use lib.ListN.{length, take, drop, length-append}
-use Rattle.std.specs.Of.Vec.{vec-items, vec-len, vec-cap}
+use lib.Dec.{leb}
+use lib.ListN.{length, take, drop}
+use Rattle.std.specs.Of.Vec.{vec-items, vec-len}
 use Rattle.std.specs.Options.{mapped}
 use Rattle.std.specs.declared.alloc.Global.{Global}
 use Rattle.std.specs.declared.vec.Vec.{Vec}
 use Rattle.std.specs.declared.option.Option.{Option}
 use Rattle.std.specs.declared.option.Option.the-variants.{Some, None}
-use Rattle.std.specs.declared.result.Result.the-variants.{Ok, Err}
+use Rattle.std.specs.declared.result.Result.the-variants.{Ok}
 use Rattle.std.proofs.shelf.Lists.{take-rest, drop-at, map-push}
 use Rattle.std.proofs.shelf.Tests.{and-parts, and-from, leb-true, le-leb, ltb-true}
 use Rattle.grammar.specs.Forms.{allOf, instructionWord}
 use Rattle.grammar.specs.Listed.{listed}
-use Rattle.grammar.specs.Model.{Rule}
-use Rattle.grammar.specs.Rows.{symbolOf, equationOf}
+use Rattle.grammar.specs.Rows.{equationOf}
 use Rattle.grammar.specs.Tests.{every}
 use Rattle.grammar.specs.declared.rows.SymbolRow.{SymbolRow}
 use Rattle.grammar.specs.declared.rows.EquationRow.{EquationRow}
@@ -29,11 +28,10 @@ use Rattle.words.specs.Tokens.{Token}
 use Rattle.lines.specs.LineKinds.Line.{planLine}
 use Rattle.lines.specs.Lines.{planIn, plannedBy}
 use Rattle.reader.specs.PlanTable.{PlanRead}
-use Rattle.reader.specs.Spans.{spanFits, rowFits, openFits, spansFit, openFew}
+use Rattle.reader.specs.Spans.{rowFits, openFits, spansFit, openFew}
 use Rattle.lines.specs.Faults.{failing, planFault}
-use Rattle.reader.specs.Steps.{State, scopeIn, onOpen, faultOf, closed}
+use Rattle.reader.specs.Steps.{scopeIn, onOpen, faultOf, closed}
 use Rattle.reader.specs.Views.{ruleOf, openOf, openScope, stateOf}
-use Rattle.reader.specs.declared.rows.Span.{Span}
 use Rattle.reader.specs.declared.rows.RuleRow.{RuleRow}
 use Rattle.reader.specs.declared.rows.Opened.{Opened}
 use Rattle.reader.specs.declared.tables.Tables.{Tables}

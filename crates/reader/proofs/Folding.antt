@@ -1,10 +1,10 @@
 -- What one line after another keeps.
-use mathlib.Core.Path.{_≡_, refl, sym, ap, subst, _∙_}
-use mathlib.Core.Bool.{Bool, true, false}
-use mathlib.Core.List.{List, [], _∷_, _++_}
+use mathlib.Core.Path.{_≡_, refl, sym, ap, _∙_}
+use mathlib.Core.Bool.{Bool}
+use mathlib.Core.List.{List, [], _∷_}
 use Prim.Native.Nat.{ℕ, _+_, _≤_, _<_}
 use native.Mathlib.Omega.{arith}
-use lib.ListN.{length, length-append}
+use lib.ListN.{length}
 use Rattle.std.specs.declared.option.Option.{Option}
 use Rattle.std.specs.declared.option.Option.the-variants.{Some, None}
 use Rattle.words.specs.Cuts.{Halves, cutAt, partsAt}
@@ -14,9 +14,8 @@ use Rattle.words.specs.declared.Line.{Line}
 use Rattle.words.proofs.Parts.{parts-cut, parts-last, parts-some}
 use Rattle.grammar.specs.declared.refusal.Refusal.{Refusal}
 use Rattle.grammar.specs.declared.refusal.Refusal.the-variants.{LineForm}
-use Rattle.reader.specs.Judgement.{Outcome, faultAt, onToken, onKeyed, judgeLine, judgeFrom, goOn, atEnd, endWith, whole, grammarIn}
-use Rattle.reader.specs.Judgement.Outcome.{sheet, fault}
-use Rattle.reader.specs.Steps.{State, Step}
+use Rattle.reader.specs.Judgement.{faultAt, onToken, onKeyed, judgeLine, judgeFrom, goOn, atEnd, endWith, whole}
+use Rattle.reader.specs.Steps.{State}
 use Rattle.reader.specs.Steps.Step.{next, stop}
 
 -- a line's key and words are judged as the line

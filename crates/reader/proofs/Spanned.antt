@@ -1,8 +1,8 @@
 -- Parts of tables stay as they are while the tables grow.
 use mathlib.Core.Path.{_≡_, refl, sym, ap, _∙_}
-use mathlib.Core.Bool.{Bool, true, false, _&&_}
+use mathlib.Core.Bool.{true}
 use mathlib.Core.List.{List, [], _∷_, _++_, map, append-nil}
-use Prim.Native.Nat.{ℕ, _+_, _-_, _≤_, _<_}
+use Prim.Native.Nat.{ℕ, _+_, _-_, _≤_}
 use native.Mathlib.Omega.{arith}
 use lib.Dec.{leb}
 use lib.ListN.{length, take, drop, length-drop}
@@ -17,7 +17,7 @@ use Rattle.grammar.specs.Tests.{every}
 use Rattle.grammar.specs.declared.rows.EquationRow.{EquationRow}
 use Rattle.grammar.specs.declared.terms.Instruction.{Instruction}
 use Rattle.reader.specs.Spans.{spanFits, rowFits, openFits, spansFit}
-use Rattle.reader.specs.Steps.{Open, addTo}
+use Rattle.reader.specs.Steps.{addTo}
 use Rattle.reader.specs.Views.{part, ruleOf, openOf}
 use Rattle.reader.specs.declared.rows.Span.{Span}
 use Rattle.reader.specs.declared.rows.RuleRow.{RuleRow}

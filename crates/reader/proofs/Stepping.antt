@@ -12,7 +12,7 @@ use Rattle.std.proofs.shelf.Tests.{ltb-true, lt-ltb, leb-true, le-leb, and-from
 use Rattle.std.specs.declared.option.Option.{Option}
 use Rattle.std.specs.declared.option.Option.the-variants.{Some, None}
 use Rattle.std.specs.declared.result.Result.{Result}
-use Rattle.std.specs.declared.result.Result.the-variants.{Ok, Err}
+use Rattle.std.specs.declared.result.Result.the-variants.{Ok}
 use Rattle.grammar.specs.Listed.{listed}
 use Rattle.grammar.specs.Model.{Symbol, Equation}
 use Rattle.grammar.specs.Rows.{symbolOf, equationOf}
@@ -28,7 +28,7 @@ use Rattle.reader.specs.Views.{openOf, stateOf}
 use Rattle.reader.specs.declared.rows.Opened.{Opened}
 use Rattle.reader.specs.declared.tables.Tables.{Tables}
 use Rattle.lines.specs.Faults.{between1, starts, failing, symbolFault, ruleFault, setFault}
-use Rattle.reader.specs.Steps.{Open, State, Step, scopeIn, onOpen, faultOf, after, unlessFault}
+use Rattle.reader.specs.Steps.{Open, State, scopeIn, onOpen, faultOf, after, unlessFault}
 use Rattle.reader.specs.Steps.Step.{next, stop}
 use Rattle.reader.specs.Judgement.{onLine}
 

@@ -1,18 +1,16 @@
 -- What the tables mean.
 use mathlib.Core.Path.{_≡_}
 use mathlib.Core.Bool.{true}
-use mathlib.Core.List.{List, [], _∷_, map}
+use mathlib.Core.List.{List, _∷_, map}
 use Prim.Native.Nat.{ℕ}
 use lib.ListN.{drop}
 use Rattle.std.specs.Holes.{between}
 use Rattle.std.specs.Of.Vec.{vec-items, vec-len}
 use Rattle.std.specs.Options.{mapped}
-use Rattle.std.specs.declared.option.Option.{Option}
-use Rattle.std.specs.declared.option.Option.the-variants.{Some, None}
 use Rattle.std.specs.declared.result.Result.{Result}
 use Rattle.std.specs.declared.result.Result.the-variants.{Ok, Err}
 use Rattle.grammar.specs.Listed.{listed}
-use Rattle.grammar.specs.Model.{Rule, Grammar}
+use Rattle.grammar.specs.Model.{Rule}
 use Rattle.grammar.specs.Rows.{symbolOf, equationOf}
 use Rattle.grammar.specs.Scopes.{Scope}
 use Rattle.grammar.specs.declared.rows.SymbolRow.{SymbolRow}

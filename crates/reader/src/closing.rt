@@ -1,17 +1,13 @@
 // The plan line, which closes a rule.
 ghost use mathlib.Core.Path.{_≡_};
-ghost use mathlib.Core.Bool.{not, _||_};
 ghost use mathlib.Core.List.{map};
-ghost use Prim.Native.Nat.{ℕ, _+_, _-_, _<_, _≤_};
+ghost use Prim.Native.Nat.{_-_, _<_, _≤_};
 ghost use Rattle.std.specs.Of.Vec.{vec-items, vec-len, vec-cap};
 ghost use Rattle.words.specs.Left.{left};
 ghost use Rattle.grammar.specs.Forms.{allOf, instructionWord};
 ghost use Rattle.grammar.specs.Rows.{equationOf};
-ghost use Rattle.grammar.specs.Scopes.{scopeOf, defines, attributesAt};
-ghost use Rattle.grammar.specs.Tests.{everyBelow};
 ghost use Rattle.reader.specs.PlanTable.{PlanRead};
-ghost use Rattle.lines.specs.Faults.{hasTarget, complete, planFault};
-ghost use Rattle.plans.specs.Groups.{groupScope, groupEquations, groupPlan};
+ghost use Rattle.lines.specs.Faults.{planFault};
 ghost use Rattle.reader.specs.Judgement.{onLine};
 ghost use Rattle.lines.specs.Lines.{planIn};
 ghost use Rattle.reader.specs.Views.{stateOf, openScope, Stepped};

@@ -1,23 +1,18 @@
 // One line after another goes into the tables, or is refused.
 ghost use mathlib.Core.Path.{_≡_};
 ghost use mathlib.Core.Bool.{not};
-ghost use mathlib.Core.List.{_∷_, map};
-ghost use Prim.Native.Nat.{ℕ, _+_, _-_, _<_, _≤_};
-ghost use lib.Dec.{ltb};
+ghost use Prim.Native.Nat.{_-_, _<_};
 ghost use lib.ListN.{length};
-ghost use Rattle.std.specs.Of.Vec.{vec-items};
 ghost use Rattle.std.specs.Options.{isSome};
 ghost use Rattle.std.specs.Vec.{made};
 ghost use Rattle.words.specs.Left.{left};
-ghost use Rattle.lines.specs.Lines.{symbolIn, ruleIn, setIn, planIn};
-ghost use Rattle.lines.specs.Faults.{between1, starts, symbolFault, ruleFault, hasTarget, setFault};
+ghost use Rattle.lines.specs.Lines.{symbolIn, ruleIn, setIn};
+ghost use Rattle.lines.specs.Faults.{starts, symbolFault, ruleFault};
 ghost use Rattle.reader.specs.Steps.{nothing, isEmpty, allowed, faultOf};
 ghost use Rattle.lines.specs.LineKinds.Line.{setLine};
 ghost use Rattle.lines.specs.Read.{setOf};
-ghost use Rattle.grammar.specs.Scopes.{scopeOf};
-ghost use Rattle.plans.specs.PlanTests.{targets};
 ghost use Rattle.grammar.specs.Listed.{listed};
-ghost use Rattle.grammar.specs.Rows.{symbolOf, equationOf};
+ghost use Rattle.grammar.specs.Rows.{symbolOf};
 ghost use Rattle.grammar.specs.Tests.{every};
 ghost use Rattle.reader.specs.Judgement.{onLine};
 ghost use Rattle.reader.specs.Views.{stateOf, Stepped};

@@ -1,15 +1,13 @@
 -- A sheet holds what was accepted, or nothing.
-use mathlib.Core.Path.{_≡_, refl, sym, ap, subst, _∙_}
-use mathlib.Core.Bool.{Bool, true, false}
-use mathlib.Core.List.{List, [], _∷_}
+use mathlib.Core.Path.{_≡_, refl, sym, ap, _∙_}
+use mathlib.Core.Bool.{true}
+use mathlib.Core.List.{List}
 use mathlib.Core.Logic.{_⊎_, inl, inr}
 use Prim.Native.Nat.{ℕ}
 use native.Mathlib.Omega.{arith}
 use Rattle.std.specs.declared.result.Result.{Result}
 use Rattle.std.specs.declared.result.Result.the-variants.{Ok, Err}
 use Rattle.grammar.specs.Model.{Grammar}
-use Rattle.grammar.specs.declared.refusal.PlanRule.{PlanRule}
-use Rattle.grammar.specs.declared.refusal.Refusal.the-variants.{Plan}
 use Rattle.plans.proofs.Telling.{tests-tell}
 use Rattle.reader.specs.Judgement.{Outcome, judge, grammarIn}
 use Rattle.reader.specs.Judgement.Outcome.{sheet, fault}
@@ -18,7 +16,7 @@ use Rattle.reader.specs.declared.fault.Fault.{Fault}
 use Rattle.reader.specs.declared.tables.Tables.{Tables}
 use Rattle.sheet.specs.Answers.{Judged, Means}
 use Rattle.sheet.specs.Kept.{empty, grammarFrom, readBack}
-use Rattle.sheet.specs.Meaning.{Sheet-of, Acceptance, Plan-refusals, Plan-broken}
+use Rattle.sheet.specs.Meaning.{Sheet-of, Acceptance, Plan-refusals}
 use Rattle.sheet.specs.Same.{sameGrammar}
 use Rattle.sheet.specs.Writing.{write}
 use Rattle.sheet.proofs.Acceptance.{accepts}

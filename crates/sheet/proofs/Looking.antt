@@ -1,5 +1,5 @@
 -- What is read off the tables of a sheet.
-use mathlib.Core.Path.{_≡_, refl, sym, ap, subst, _∙_}
+use mathlib.Core.Path.{_≡_, refl, sym, ap, _∙_}
 use mathlib.Core.Bool.{Bool, true, false}
 use mathlib.Core.List.{List, [], _∷_, map}
 use mathlib.Core.Logic.{_⊎_, ⊎-elim}
@@ -18,7 +18,6 @@ use Rattle.std.specs.declared.option.Option.{Option}
 use Rattle.std.proofs.shelf.Lists.{length-map}
 use Rattle.std.proofs.shelf.Sums.{sumBy-cons, sumBy-more, sumBy-take-le}
 use Rattle.std.proofs.shelf.Tests.{and-parts, eqb-true, eqb-false}
-use Rattle.grammar.specs.Model.{Rule, Grammar}
 use Rattle.grammar.specs.Rows.{equationOf}
 use Rattle.grammar.specs.Tests.{every}
 use Rattle.grammar.specs.declared.rows.EquationRow.{EquationRow}

@@ -1,17 +1,13 @@
 -- The tests of sameness tell just where two things are the same.
-use mathlib.Core.Path.{_≡_, refl, sym, ap, _∙_}
-use mathlib.Core.Bool.{Bool, true, false, _&&_}
+use mathlib.Core.Path.{_≡_, refl, ap}
+use mathlib.Core.Bool.{Bool, true, _&&_}
 use mathlib.Core.List.{List, [], _∷_}
-use Prim.Native.Nat.{ℕ}
 use native.Mathlib.Omega.{arith}
 use lib.Dec.{eqb}
-use Rattle.std.specs.Orderings.{Decides}
 use Rattle.std.proofs.shelf.Tests.{and-parts, and-from, eqb-true, eq-eqb}
-use Rattle.grammar.specs.Model.{Symbol, Equation, Rule, Grammar}
 use Rattle.grammar.specs.Scopes.{sameFlow}
 use Rattle.grammar.specs.declared.terms.Flow.{Flow}
 use Rattle.grammar.specs.declared.terms.Flow.the-variants.{Inherited, Synthesized}
-use Rattle.grammar.specs.declared.terms.Attribute.{Attribute}
 use Rattle.grammar.specs.declared.terms.Argument.{Argument}
 use Rattle.grammar.specs.declared.terms.Argument.the-variants.{Datum, Of}
 use Rattle.grammar.specs.declared.terms.Instruction.{Instruction}

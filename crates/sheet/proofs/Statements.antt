@@ -1,25 +1,22 @@
 -- What the proofs of reading and writing show.
 use mathlib.Core.Path.{_≡_}
-use mathlib.Core.Bool.{Bool, true, false}
-use mathlib.Core.List.{List, [], _∷_, _++_}
-use Prim.Native.Nat.{ℕ, _+_, _≤_, _<_}
+use mathlib.Core.Bool.{true}
+use mathlib.Core.List.{List, [], _∷_}
+use Prim.Native.Nat.{ℕ, _≤_, _<_}
 use lib.ListN.{length}
 use Rattle.std.specs.shelf.Lists.{All, joined}
-use Rattle.std.specs.declared.option.Option.{Option}
-use Rattle.std.specs.declared.option.Option.the-variants.{Some, None}
 use Rattle.words.specs.Cuts.{Lacks, partsAt}
 use Rattle.grammar.specs.Model.{Grammar}
-use Rattle.grammar.specs.declared.terms.Attribute.{Attribute}
 use Rattle.grammar.specs.declared.terms.Argument.{Argument}
 use Rattle.grammar.specs.declared.terms.Argument.the-variants.{Datum, Of}
 use Rattle.grammar.specs.declared.terms.Instruction.{Instruction}
 use Rattle.grammar.specs.declared.terms.Instruction.the-variants.{Evaluate, Visit, Return}
 use Rattle.lines.specs.LineKinds.{Line}
 use Rattle.lines.specs.LineKinds.Line.{symbolLine, ruleLine, setLine, planLine}
-use Rattle.reader.specs.Steps.{State, Step, allowed, step}
-use Rattle.reader.specs.Steps.Step.{next, stop}
-use Rattle.reader.specs.Judgement.{Outcome, judgeLine, judgeFrom, ifAllowed, whole}
-use Rattle.reader.specs.Judgement.Outcome.{sheet, fault}
+use Rattle.reader.specs.Steps.{State, allowed, step}
+use Rattle.reader.specs.Steps.Step.{next}
+use Rattle.reader.specs.Judgement.{judgeLine, judgeFrom, ifAllowed, whole}
+use Rattle.reader.specs.Judgement.Outcome.{sheet}
 use Rattle.lines.specs.declared.says.Key.{Key}
 use Rattle.lines.specs.declared.says.Key.the-variants.{OfSymbol, OfRule, OfSet, OfPlan}
 use Rattle.sheet.specs.Writing.{writeLine, ended}

@@ -1,6 +1,6 @@
 -- What the calls on sheets answer.
 use mathlib.Core.Path.{_≡_}
-use mathlib.Core.List.{List, [], _∷_, map}
+use mathlib.Core.List.{List}
 use Prim.Native.Nat.{ℕ, _-_}
 use lib.ListN.{length}
 use Rattle.std.specs.declared.result.Result.{Result}
@@ -8,7 +8,7 @@ use Rattle.std.specs.declared.result.Result.the-variants.{Ok, Err}
 use Rattle.grammar.specs.Model.{Rule, Grammar}
 use Rattle.grammar.specs.declared.refusal.PlanRule.{PlanRule}
 use Rattle.grammar.specs.declared.refusal.Refusal.the-variants.{Plan}
-use Rattle.plans.specs.Groups.{groupScope, groupEquations, groupPlan}
+use Rattle.plans.specs.Groups.{groupEquations, groupPlan}
 use Rattle.plans.specs.declared.Group.{Group}
 use Rattle.reader.specs.Judgement.{Outcome, grammarIn}
 use Rattle.reader.specs.Judgement.Outcome.{sheet, fault}

@@ -1,6 +1,5 @@
 -- What a sheet keeps between readings.
-use mathlib.Core.Path.{_≡_}
-use mathlib.Core.List.{List, []}
+use mathlib.Core.List.{[]}
 use Rattle.grammar.specs.Model.{Grammar}
 use Rattle.reader.specs.Judgement.{Outcome, judge}
 use Rattle.reader.specs.Judgement.Outcome.{sheet, fault}

@@ -1,12 +1,11 @@
 -- What a grammar has to meet, rule by rule.
 use mathlib.Core.Path.{_≡_}
-use mathlib.Core.List.{List, [], _∷_, _++_}
+use mathlib.Core.List.{List, _∷_, _++_}
 use Prim.Native.Nat.{ℕ, _≤_, _<_}
 use lib.ListN.{length}
 use Rattle.std.specs.shelf.Lists.{All, joined, sumBy}
 use Rattle.std.specs.shelf.Maps.{nth}
-use Rattle.std.specs.declared.option.Option.{Option}
-use Rattle.std.specs.declared.option.Option.the-variants.{Some, None}
+use Rattle.std.specs.declared.option.Option.the-variants.{Some}
 use Rattle.grammar.specs.Model.{Symbol, Equation, Rule, Grammar}
 use Rattle.grammar.specs.Scopes.{Scope, visitsAt, attributeAt, Defined, TakenAt}
 use Rattle.grammar.specs.declared.terms.Flow.the-variants.{Synthesized}
@@ -18,9 +17,8 @@ use Rattle.grammar.specs.declared.terms.Instruction.the-variants.{Evaluate, Vis
 use Rattle.grammar.specs.declared.refusal.PlanRule.{PlanRule}
 use Rattle.grammar.specs.declared.refusal.Refusal.the-variants.{Plan}
 use Rattle.plans.specs.PlanRules.{Planned, FirstBroken}
-use Rattle.reader.specs.Judgement.{Outcome, judge}
+use Rattle.reader.specs.Judgement.{judge}
 use Rattle.reader.specs.Judgement.Outcome.{sheet, fault}
-use Rattle.reader.specs.declared.fault.Fault.{Fault}
 use Rattle.sheet.specs.Writing.{ended, linesOf, groupOf, write}
 
 -- 1 to 4 visits; at most 16 attributes, each known from one of these visits on

@@ -4,7 +4,7 @@ use mathlib.Core.List.{List, [], _∷_, _++_}
 use Prim.Native.Nat.{ℕ}
 use lib.Chars.{codes}
 use Rattle.std.specs.shelf.Lists.{joined}
-use Rattle.grammar.specs.Model.{Symbol, Equation, Rule, Grammar}
+use Rattle.grammar.specs.Model.{Grammar}
 use Rattle.grammar.specs.Refusals.{refusalNumber, layerOf, ruleNumber}
 use Rattle.grammar.specs.declared.terms.Flow.the-variants.{Inherited, Synthesized}
 use Rattle.grammar.specs.declared.terms.Argument.the-variants.{Datum, Of}

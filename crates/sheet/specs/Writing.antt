@@ -4,7 +4,7 @@ use Prim.Native.Nat.{ℕ}
 use lib.Chars.{codes}
 use Rattle.std.specs.Written.{decimal}
 use Rattle.std.specs.shelf.Lists.{joined}
-use Rattle.grammar.specs.Model.{Symbol, Equation, Rule, Grammar}
+use Rattle.grammar.specs.Model.{Symbol, Rule, Grammar}
 use Rattle.grammar.specs.declared.terms.Flow.{Flow}
 use Rattle.grammar.specs.declared.terms.Flow.the-variants.{Inherited, Synthesized}
 use Rattle.grammar.specs.declared.terms.Attribute.{Attribute}

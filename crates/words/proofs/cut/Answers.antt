@@ -1,6 +1,5 @@
 use native.Mathlib.Omega.{arith}
-use borrow.Author.Needs.{needs}
-use lib.ListN.{length, take, drop, length-take, length-drop}
+use lib.ListN.{length-take, length-drop}
 use Rattle.words.proofs.Parts.{cut-at, cut-none}
 use Rattle.words.proofs.cut.Needs as need
 

@@ -1,6 +1,5 @@
-use mathlib.Core.Path.{_≡_, refl, sym, ap, _∙_}
+use mathlib.Core.Path.{refl, sym, ap, _∙_}
 use mathlib.Core.List.{[], _∷_, map}
-use Rattle.words.specs.Cuts.{Halves, partsAt}
 use Rattle.words.specs.Tokens.{Token, lex, wordsIn}
 use Rattle.words.specs.Left.{leftIn}
 use Rattle.words.proofs.Parts.{parts-cut, parts-last}

@@ -1,4 +1,4 @@
-use mathlib.Core.Path.{sym, ap, _∙_}
+use mathlib.Core.Path.{ap, _∙_}
 use mathlib.Core.List.{map}
 use Rattle.std.specs.shelf.Maps.{nth}
 use Rattle.grammar.specs.Rows.{symbolOf}
