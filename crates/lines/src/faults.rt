@@ -1,16 +1,17 @@
 // What is wrong with a line, by the words that it says and what stands before it.
 ghost use mathlib.Core.Path.{_≡_};
 ghost use mathlib.Core.Bool.{not, _||_};
-ghost use mathlib.Core.List.{_∷_, map};
+ghost use mathlib.Core.List.{[], _∷_, map};
 ghost use Prim.Native.Nat.{_+_, _-_};
 ghost use lib.Dec.{ltb};
+ghost use lib.ListN.{length};
 ghost use Rattle.grammar.specs.Listed.{listed};
 ghost use Rattle.grammar.specs.Rows.{symbolOf, equationOf};
 ghost use Rattle.grammar.specs.Scopes.{scopeOf, defines, attributesAt};
 ghost use Rattle.grammar.specs.Tests.{every, everyBelow};
 ghost use Rattle.plans.specs.Groups.{groupScope, groupEquations, groupPlan};
 ghost use Rattle.plans.specs.PlanTests.{targets};
-ghost use Rattle.lines.specs.Faults.{between1, hasTarget, setFault, complete, planFault};
+ghost use Rattle.lines.specs.Faults.{between1, complete, hasTarget, planFault, ruleFault, setFault, starts, symbolFault};
 ghost use Rattle.lines.specs.Read.{setOf};
 use super::checks::ArgumentTaken;
 use super::checks::ArgumentTakenCheck;
@@ -23,6 +24,8 @@ use super::checks::RightVisit;
 use super::checks::RightVisitCheck;
 use super::checks::SymbolThere;
 use super::checks::SymbolThereCheck;
+use super::checks::Synthesizes;
+use super::checks::SynthesizesCheck;
 use super::checks::VisitWithin;
 use super::checks::VisitWithinCheck;
 use super::checks::every;
@@ -34,7 +37,59 @@ use grammar::Refusal;
 use grammar::SymbolRow;
 use plans::Group;
 
-pub fn visits_there(symbol: &SymbolRow) -> bool
+fn count(symbols: &[SymbolRow]) -> usize
+    ensures { λ r. ⌜ r ≡ length (map symbolOf (now (symbols .entry))) ⌝ }
+{
+    symbols.len()
+}
+
+// One visit, and no attribute from above.
+fn start_symbol(symbol: &SymbolRow) -> bool
+    ensures { λ r. ⌜ r ≡ starts [] (symbolOf (now (symbol .entry)) .visits) (symbolOf (now (symbol .entry)) .attributes) ⌝ }
+{
+    symbol.visits == 1 && every(&Synthesizes, symbol.attributes.as_slice())
+}
+
+// Only the first symbol is the start.
+fn starts(symbols: &[SymbolRow], symbol: &SymbolRow) -> bool
+    ensures { λ r. ⌜ r ≡ starts (map symbolOf (now (symbols .entry))) (symbolOf (now (symbol .entry)) .visits) (symbolOf (now (symbol .entry)) .attributes) ⌝ }
+{
+    if !symbols.is_empty() {
+        return true;
+    }
+    start_symbol(symbol)
+}
+
+// What is wrong with a symbol that comes behind others.
+pub fn symbol_fault(symbols: &[SymbolRow], symbol: &SymbolRow) -> Option<Refusal>
+    ensures { λ r. ⌜ r ≡ symbolFault (map symbolOf (now (symbols .entry))) (symbolOf (now (symbol .entry)) .visits) (symbolOf (now (symbol .entry)) .attributes) ⌝ }
+{
+    if symbol.visits < 1 || symbol.visits > 4 || count(symbols) >= 32 {
+        return Some(Refusal::Range);
+    }
+    if !visits_there(symbol) {
+        return Some(Refusal::Absent);
+    }
+    if !starts(symbols, symbol) {
+        return Some(Refusal::Start);
+    }
+    None
+}
+
+// What is wrong with a rule, where there are so many symbols and rules before it.
+pub fn rule_fault(symbols: usize, rules: usize, row: &RuleWords) -> Option<Refusal>
+    ensures { λ r. ⌜ r ≡ ruleFault symbols rules (now (row .entry) .left) (listed (now (row .entry) .right)) ⌝ }
+{
+    if rules >= 64 {
+        return Some(Refusal::Range);
+    }
+    if !symbols_there(symbols, row) {
+        return Some(Refusal::Absent);
+    }
+    None
+}
+
+fn visits_there(symbol: &SymbolRow) -> bool
     ensures { λ r. ⌜ r ≡ every (λ x. between1 (symbolOf (now (symbol .entry)) .visits) (x .visit)) (symbolOf (now (symbol .entry)) .attributes) ⌝ }
 {
     let within = VisitWithin {
@@ -43,7 +98,7 @@ pub fn visits_there(symbol: &SymbolRow) -> bool
     every(&within, symbol.attributes.as_slice())
 }
 
-pub fn symbols_there(count: usize, row: &RuleWords) -> bool
+fn symbols_there(count: usize, row: &RuleWords) -> bool
     ensures { λ r. ⌜ r ≡ every (λ x. ltb x count) (now (row .entry) .left ∷ listed (now (row .entry) .right)) ⌝ }
 {
     let there = SymbolThere { count };

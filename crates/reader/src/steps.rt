@@ -21,19 +21,15 @@ use super::tables::Tables;
 use grammar::EquationRow;
 use grammar::Production;
 use grammar::Refusal;
-use grammar::SymbolRow;
 use lines::Key;
 use lines::RuleWords;
 use lines::SetWords;
-use lines::Synthesizes;
-use lines::SynthesizesCheck;
 use lines::equation;
 use lines::equation_fault;
-use lines::every;
 use lines::rule;
+use lines::rule_fault;
 use lines::symbol;
-use lines::symbols_there;
-use lines::visits_there;
+use lines::symbol_fault;
 use std::alloc::AllocError;
 use std::alloc::Global;
 use words::Words;
@@ -106,35 +102,11 @@ impl Tables {
         }
     }
 
-    // What is wrong with a symbol that comes next.
-    fn symbol_fault(&self, symbol: &SymbolRow) -> Option<Refusal>
-        ensures { λ r. ⌜ r ≡ symbolFault (stateOf (now (self .entry)) .symbols) (symbolOf (now (symbol .entry)) .visits) (symbolOf (now (symbol .entry)) .attributes) ⌝ }
-    {
-        if symbol.visits < 1 || symbol.visits > 4 || self.symbol_count() >= 32 {
-            return Some(Refusal::Range);
-        }
-        if !visits_there(symbol) {
-            return Some(Refusal::Absent);
-        }
-        if !self.starts(symbol) {
-            return Some(Refusal::Start);
-        }
-        None
-    }
-
-    // Whether a symbol may stand where the next one goes: the first is the start.
-    fn starts(&self, symbol: &SymbolRow) -> bool
-        ensures { λ r. ⌜ r ≡ starts (stateOf (now (self .entry)) .symbols) (symbolOf (now (symbol .entry)) .visits) (symbolOf (now (symbol .entry)) .attributes) ⌝ }
-    {
-        self.has_symbols()
-            || symbol.visits == 1 && every(&Synthesizes, symbol.attributes.as_slice())
-    }
-
     pub(super) fn add_symbol(&mut self, words: Words<'_>) -> Result<(), Refusal>
         ensures { λ r. ⌜ Stepped r (onLine (stateOf (now (self .entry))) (symbolIn (left (words .entry)))) (now (self .exit)) ⌝ }
     {
         let row = symbol(words)?;
-        match self.symbol_fault(&row) {
+        match symbol_fault(&self.symbols, &row) {
             Some(refusal) => Err(refusal),
             None => {
                 self.symbols.push_reserved(row);
@@ -143,24 +115,11 @@ impl Tables {
         }
     }
 
-    // What is wrong with a rule that comes next.
-    fn rule_fault(&self, row: &RuleWords) -> Option<Refusal>
-        ensures { λ r. ⌜ r ≡ ruleFault (length (stateOf (now (self .entry)) .symbols)) (length (stateOf (now (self .entry)) .rules)) (now (row .entry) .left) (listed (now (row .entry) .right)) ⌝ }
-    {
-        if self.rule_count() >= 64 {
-            return Some(Refusal::Range);
-        }
-        if !symbols_there(self.symbol_count(), row) {
-            return Some(Refusal::Absent);
-        }
-        None
-    }
-
     pub(super) fn open_rule(&mut self, words: Words<'_>) -> Result<(), Refusal>
         ensures { λ r. ⌜ Stepped r (onLine (stateOf (now (self .entry))) (ruleIn (left (words .entry)))) (now (self .exit)) ⌝ }
     {
         let row = rule(words)?;
-        match self.rule_fault(&row) {
+        match rule_fault(self.symbol_count(), self.rule_count(), &row) {
             Some(refusal) => Err(refusal),
             None => {
                 let RuleWords { left, right } = row;
