@@ -1,0 +1,4 @@
+pub mod Writing
+pub mod Rowwise
+pub mod Examples
+pub mod Supplying

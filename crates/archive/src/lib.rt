@@ -1,0 +1,30 @@
+// The archive that an evaluation reads: the interface, and the two house settings.
+mod by_id;
+mod by_path;
+mod catalogue;
+mod clip;
+mod house;
+mod interface;
+mod text;
+mod varied;
+
+pub use by_id::Identifier;
+pub use by_id::IdentifierClip;
+pub use by_path::Path;
+pub use by_path::PathClip;
+pub use catalogue::ById;
+pub use catalogue::ByPath;
+pub use catalogue::Catalogue;
+pub use catalogue::CatalogueArchive;
+pub use catalogue::CataloguePrintable;
+pub use clip::Clip;
+pub use clip::Row;
+pub use clip::length;
+pub use house::Function;
+pub use house::House;
+pub use interface::Archive;
+pub use interface::Printable;
+pub use interface::filled;
+pub use interface::supplied;
+pub use text::Text;
+pub use varied::settings_are_varied;
