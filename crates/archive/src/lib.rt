@@ -1,4 +1,5 @@
 // The archive that an evaluation reads: the interface, and the two house settings.
+mod answers;
 mod by_id;
 mod by_path;
 mod catalogue;
@@ -8,6 +9,12 @@ mod interface;
 mod text;
 mod varied;
 
+pub use answers::house_count;
+pub use answers::house_result;
+pub use answers::leaf_by_identifier;
+pub use answers::leaf_by_path;
+pub use answers::text_by_identifier;
+pub use answers::text_by_path;
 pub use by_id::Identifier;
 pub use by_id::IdentifierClip;
 pub use by_path::Path;

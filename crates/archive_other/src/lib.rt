@@ -66,6 +66,9 @@ mod tests {
         ]?;
         let archive = ById::new(rows);
         check(archive.count(3) == Some(2))?;
+        check(archive.count(7) == None)?;
+        check(gives(&archive, 1, [8, 0], b"c8"))?;
+        check(gives(&archive, 7, [7, 7], b"-"))?;
         check(gives(&archive, 1, [0, 7], b"-"))?;
         check(gives(&archive, 4, [0, 7], b"c7"))?;
         let zero = evaluated(&archive, 0, &[]);
@@ -117,6 +120,10 @@ mod tests {
         check(gives(&archive, 1, [2, 1], b"p4294967295/4294967295/4294967295"))?;
         check(gives(&archive, 1, [3, 1], b"-"))?;
         check(gives(&archive, 4, [0, 1], b"p1/2/3"))?;
-        check(gives(&archive, 7, [1, 1], b"-"))
+        check(gives(&archive, 7, [1, 1], b"-"))?;
+        let zero = evaluated(&archive, 0, &[]);
+        let short = evaluated(&archive, 3, &[zero, archive.leaf(2)]);
+        let both = evaluated(&archive, 3, &[short, archive.leaf(1)]);
+        check(archive.text(both).as_slice() == b"f1024")
     }
 }
