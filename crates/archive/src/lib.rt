@@ -1,4 +1,6 @@
 // The archive that an evaluation reads: the interface, and the two house settings.
+#![tactic(auto)]
+
 mod answers;
 mod by_id;
 mod by_path;

@@ -1,4 +1,6 @@
 // An archive of another kind, and code that knows archives by their interface alone.
+#![tactic(auto)]
+
 mod generic;
 mod harbour;
 

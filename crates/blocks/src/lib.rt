@@ -1,4 +1,6 @@
 // Blocks: trees as rows of pieces, judged, and written into free places.
+#![tactic(auto)]
+
 mod blanking;
 mod clearing;
 mod finding;

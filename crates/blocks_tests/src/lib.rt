@@ -1,3 +1,5 @@
 // Tests of the blocks.
+#![tactic(auto)]
+
 #[cfg(test)]
 mod tests;

@@ -1,4 +1,6 @@
 // Changes of the table of places: single fields, marks, the exchange of a block, and the freeing of one.
+#![tactic(auto)]
+
 mod block;
 mod depth;
 mod exchanging;

@@ -1,4 +1,6 @@
 // What a sheet speaks of: symbols with their attributes, equations, plans; and the refusals of sheets.
+#![tactic(auto)]
+
 mod few;
 mod production;
 mod read;

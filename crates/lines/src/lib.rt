@@ -1,4 +1,6 @@
 // The lines of a sheet: what their words say, and what can be wrong with it.
+#![tactic(auto)]
+
 mod checks;
 mod faults;
 mod says;

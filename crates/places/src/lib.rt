@@ -1,5 +1,7 @@
 // The table of places: nodes with their marks, climbing to parents, whether a table is in shape, what is free and owed
 // in it, and the pushdown list over cells that a caller lends.
+#![tactic(auto)]
+
 mod climbing;
 mod laws;
 mod marks;

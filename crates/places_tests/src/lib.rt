@@ -1,4 +1,6 @@
 // Tables in shape, and tables damaged in each way that the shape forbids.
+#![tactic(auto)]
+
 #[cfg(test)]
 mod tests {
     use places::{Node, Parent, Place, first_owed_in_tree, free_places, is_shaped, owed_total};

@@ -1,4 +1,6 @@
 // The six rules that a plan has to meet.
+#![tactic(auto)]
+
 ghost use Rattle.std.specs.Prelude.{◌≡◌};
 ghost use Rattle.plans.specs.Groups.{group_scope, group_equations, group_plan, TestsTell};
 ghost use Rattle.plans.specs.PlanRules.{FirstBroken};

@@ -1,4 +1,6 @@
 // Sheets of grammar and plans: read, judged line by line, and kept.
+#![tactic(auto)]
+
 mod closing;
 mod fault;
 mod reading;

@@ -1,3 +1,5 @@
 // The calls that run a day.
+#![tactic(auto)]
+
 mod tables;
 mod ticket;

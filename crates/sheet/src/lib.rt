@@ -1,4 +1,6 @@
 // Sheets of grammar and plans: what was accepted, or nothing.
+#![tactic(auto)]
+
 mod counts;
 mod kept;
 mod laws;

@@ -1,4 +1,6 @@
 // Judges a sheet: the file that is named, or standard input.
+#![tactic(auto)]
+
 use anyhow::anyhow;
 use sheet::Sheet;
 use std::fs::File;

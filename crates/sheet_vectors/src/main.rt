@@ -1,5 +1,7 @@
 // Judges many sheets: each case is a line `case NAME LENGTH`, then that many bytes, then a byte 10. Writes a line for each,
 // with its name and its verdict.
+#![tactic(auto)]
+
 use anyhow::anyhow;
 use sheet::Sheet;
 use std::io::Read;

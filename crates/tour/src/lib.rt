@@ -1,4 +1,6 @@
 // Facts about trees of blocks and the order in which their attributes are evaluated, each proved where its function is.
+#![tactic(auto)]
+
 ghost use Rattle.tour.specs.Blocks.{BlockLaw};
 ghost use Rattle.tour.specs.Engine.{EngineLaw};
 ghost use Rattle.tour.specs.Entering.{EntryLaw};

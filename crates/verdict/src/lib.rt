@@ -1,4 +1,6 @@
 // What was found of a text, in the words that programs print.
+#![tactic(auto)]
+
 ghost use Rattle.std.specs.Prelude.{◌≡◌, [], ◌∷◌, ◌++◌, IfOk, string_bytes, codes, decimal};
 ghost use Rattle.reader.specs.Judgement.{judge};
 ghost use Rattle.sheet.specs.Answers.{grammar_of};

@@ -1,4 +1,6 @@
 // One walk along the tour of a tree, and the evaluation of what it meets.
+#![tactic(auto)]
+
 mod along;
 mod evaluation;
 mod laws;

@@ -8,20 +8,20 @@ use Rattle.blocks.proofs.Entries.{blanked_trees}
 use Rattle.blocks.proofs.Writing.{judged_sound}
 use Rattle.blocks.proofs.blanking.blank_values.Goals as goal
 
-pub returns-in-default : goal.returns-in-default
-returns-in-default g c =
+pub returns-in_default : goal.returns-in_default
+returns-in_default g c =
     let σ = grammar_of c.args.sheet.now in
     let k = reads_known σ (own_symbol σ c.args.block.now ∷ []) c.args.block.now c.loop-piece.piece-index (record { rule = 0; datum = 0 }) c.requires.judged c.loop-piece-test.true in
-    absurd (omega (arith, k, c.in-default.ensures))
+    absurd (omega (arith, k, c.in_default.ensures))
 
-pub returns-in-default-first-free : goal.returns-in-default-first-free
-returns-in-default-first-free g c =
+pub returns-in_default-first-free : goal.returns-in_default-first-free
+returns-in_default-first-free g c =
     let σ = grammar_of c.args.sheet.now in
     let bs = c.args.block.now in
     let ps = c.args.places.now in
     let vs = c.args.values.now in
     let e = sym (blanked_taken σ (g.A.Archive.leafs c.args.archive.now 0) bs ps vs ∙ ap (λ v. blanked σ v bs (free ps) vs) (sym c.leaf-blank.ensures) ∙ c.loop-piece.invariant
-    ∙ blanked_nowhere σ c.leaf-blank.result (drop c.loop-piece.piece-index bs) (free_after c.loop-piece.next ps) c.loop-piece.values c.in-default-first-free.ensures.found) in
+    ∙ blanked_nowhere σ c.leaf-blank.result (drop c.loop-piece.piece-index bs) (free_after c.loop-piece.next ps) c.loop-piece.values c.in_default-first-free.ensures.found) in
     record { entries = e; blank = blanked_trees σ (g.A.Archive.leafs c.args.archive.now 0) (judged_sound c.args.sheet.now (own_symbol σ bs) [] bs c.requires.judged) ps bs vs c.loop-piece.values c.requires.room c.requires.entries e }
 
 pub loop-piece-preserved : goal.loop-piece-preserved

@@ -5,36 +5,36 @@ use Rattle.blocks.proofs.Fronts.{front}
 use Rattle.blocks.proofs.Rows.{row_none, row_ended, no_row_below, no_row_beside, row_more}
 use Rattle.blocks.proofs.judging.+measure_row.Goals as goal
 
-pub returns-in-default : goal.returns-in-default
-returns-in-default t c = let l : length c.args.symbols.now < 1 = search rules in row_none (grammar_of c.args.sheet.now) c.args.symbols.now c.args.depth c.args.pieces.now l
+pub returns-in_default : goal.returns-in_default
+returns-in_default t c = let l : length c.args.symbols.now < 1 = search rules in row_none (grammar_of c.args.sheet.now) c.args.symbols.now c.args.depth c.args.pieces.now l
 
-pub returns-in-default-pieces : goal.returns-in-default-pieces
-returns-in-default-pieces t c =
+pub returns-in_default-pieces : goal.returns-in_default-pieces
+returns-in_default-pieces t c =
     let l : 1 ≤ length c.args.symbols.now = search rules in
     let m : length c.args.pieces.now < 1 = search rules in
     row_ended (grammar_of c.args.sheet.now) c.args.symbols.now c.args.pieces.now l m
 
-pub returns-in-err-below : goal.returns-in-err-below
-returns-in-err-below t c =
+pub returns-in_err-below : goal.returns-in_err-below
+returns-in_err-below t c =
     let g = grammar_of c.args.sheet.now in
     let xs = c.args.symbols.now in
     let bs = c.args.pieces.now in
     let l : 1 ≤ length c.args.symbols.now = search rules in
     let m : 1 ≤ length c.args.pieces.now = search rules in
-    subst (λ o. MatchOption o (NoRow g xs bs) (λ m. Row g xs c.args.depth bs m.0 m.1.now)) (sym c.from-residual-in-err-below.ensures)
+    subst (λ o. MatchOption o (NoRow g xs bs) (λ m. Row g xs c.args.depth bs m.0 m.1.now)) (sym c.from-residual-in_err-below.ensures)
     (no_row_below g xs bs _ _ _ _ _ _ _ (front xs 0 l) (front bs (record { rule = 0; datum = 0 }) m)
-    c.in-ok-kind.ensures c.if-kind-symbol.false c.in-err-below.ensures)
+    c.in_ok-kind.ensures c.if-kind-symbol.false c.in_err-below.ensures)
 
-pub returns-in-err-beside : goal.returns-in-err-beside
-returns-in-err-beside t c =
+pub returns-in_err-beside : goal.returns-in_err-beside
+returns-in_err-beside t c =
     let g = grammar_of c.args.sheet.now in
     let xs = c.args.symbols.now in
     let bs = c.args.pieces.now in
     let l : 1 ≤ length c.args.symbols.now = search rules in
     let m : 1 ≤ length c.args.pieces.now = search rules in
-    subst (λ o. MatchOption o (NoRow g xs bs) (λ m. Row g xs c.args.depth bs m.0 m.1.now)) (sym c.from-residual-in-err-beside.ensures)
+    subst (λ o. MatchOption o (NoRow g xs bs) (λ m. Row g xs c.args.depth bs m.0 m.1.now)) (sym c.from-residual-in_err-beside.ensures)
     (no_row_beside g xs bs _ _ _ _ _ _ _ _ _ _ (front xs 0 l) (front bs (record { rule = 0; datum = 0 }) m)
-    c.in-ok-kind.ensures c.if-kind-symbol.false c.in-ok-below.ensures c.in-err-beside.ensures)
+    c.in_ok-kind.ensures c.if-kind-symbol.false c.in_ok-below.ensures c.in_err-beside.ensures)
 
 pub returns : goal.returns
 returns t c =
@@ -43,5 +43,5 @@ returns t c =
     let bs = c.args.pieces.now in
     let l : 1 ≤ length c.args.symbols.now = search rules in
     let m : 1 ≤ length c.args.pieces.now = search rules in
-    subst (λ m. Row g xs c.args.depth bs m c.in-ok-beside.rest.now) (sym (c.max-2.ensures ∙ ap (λ z. max z c.in-ok-beside.beside) c.max.ensures))
-    (row_more g xs bs _ _ _ _ _ _ _ _ _ _ _ _ (front xs 0 l) (front bs (record { rule = 0; datum = 0 }) m) c.in-ok-kind.ensures c.if-kind-symbol.false c.in-ok-below.ensures c.in-ok-beside.ensures)
+    subst (λ m. Row g xs c.args.depth bs m c.in_ok-beside.rest.now) (sym (c.max-2.ensures ∙ ap (λ z. max z c.in_ok-beside.beside) c.max.ensures))
+    (row_more g xs bs _ _ _ _ _ _ _ _ _ _ _ _ (front xs 0 l) (front bs (record { rule = 0; datum = 0 }) m) c.in_ok-kind.ensures c.if-kind-symbol.false c.in_ok-below.ensures c.in_ok-beside.ensures)

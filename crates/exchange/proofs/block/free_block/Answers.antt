@@ -67,4 +67,4 @@ loop-p-preserved c =
     ((let a = ap length c.pop.ensures.cells in let b = c.loop-p.invariant.0 in omega arith), subst (Freeing c.args.places.now (set c.loop-p.places c.from.result None) c.args.block) (sym st) (subst (λ p. Freeing c.args.places.now (set c.loop-p.places p None) c.args.block (stacked c.loop-p.path.cells.now (c.loop-p.path.len - 1))) (sym c.from.ensures) go))
 
 pub returns : goal.returns
-returns c = all_free (grammar_of c.args.sheet.now) c.args.places.now c.requires.sound c.args.block c.loop-p.places (subst (Freeing c.args.places.now c.loop-p.places c.args.block) (ap (stacked c.loop-p.path.cells.now) c.in-default.ensures) c.loop-p.invariant.1)
+returns c = all_free (grammar_of c.args.sheet.now) c.args.places.now c.requires.sound c.args.block c.loop-p.places (subst (Freeing c.args.places.now c.loop-p.places c.args.block) (ap (stacked c.loop-p.path.cells.now) c.in_default.ensures) c.loop-p.invariant.1)

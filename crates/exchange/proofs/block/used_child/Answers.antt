@@ -19,7 +19,7 @@ pub returns-then-is-some : goal.returns-then-is-some
 returns-then-is-some c =
     let g = grammar_of c.args.sheet.now in
     let ps = c.args.places.now in
-    let node = c.in-ok-node.node in
+    let node = c.in_ok-node.node in
     let e : at ps c.args.p ≡ Some node = search rules in
     let h : c.loop-k.k < arity g node.rule = (let v = c.arity-k-end.ensures.value in omega arith) in
     let l = kids_length g ps c.args.p node e in
@@ -29,7 +29,7 @@ pub returns : goal.returns
 returns c = λ k h.
     let g = grammar_of c.args.sheet.now in
     let ps = c.args.places.now in
-    let node = c.in-ok-node.node in
+    let node = c.in_ok-node.node in
     let e : at ps c.args.p ≡ Some node = search rules in
     let l = kids_length g ps c.args.p node e in
     let v = c.arity-k-end.ensures.value in

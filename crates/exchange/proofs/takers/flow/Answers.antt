@@ -8,8 +8,8 @@ use Rattle.exchange.proofs.Flows.{flow_in, flow_left}
 use Rattle.exchange.proofs.Targets.{rule_there}
 use Rattle.exchange.proofs.takers.flow.Goals as goal
 
-pub returns-in-default : goal.returns-in-default
-returns-in-default c = absurd (rule_there (grammar_of c.args.sheet.now) c.args.number c.requires (search rules))
+pub returns-in_default : goal.returns-in_default
+returns-in_default c = absurd (rule_there (grammar_of c.args.sheet.now) c.args.number c.requires (search rules))
 
 pub returns-in-Some-attribute : goal.returns-in-Some-attribute
 returns-in-Some-attribute c =

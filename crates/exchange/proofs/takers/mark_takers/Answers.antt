@@ -22,8 +22,8 @@ bounds-places-from c =
     let h = used_within c.args.places.now c.args.p (fits_used (grammar_of c.args.sheet.now) c.args.places.now c.args.p c.requires) in
     omega arith
 
-pub returns-in-default-rule : goal.returns-in-default-rule
-returns-in-default-rule c =
+pub returns-in_default-rule : goal.returns-in_default-rule
+returns-in_default-rule c =
     let g = grammar_of c.args.sheet.now in
     let ps = c.args.places.now in
     let node = c.in-Some.node in

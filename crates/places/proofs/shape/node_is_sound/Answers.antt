@@ -9,9 +9,9 @@ use Rattle.places.specs.Shape.{ChildThere}
 use Rattle.places.proofs.Looks.{refuses, rule_found, rule_missing, rule_attributes}
 use Rattle.places.proofs.shape.node_is_sound.Goals as goal
 
-pub returns-in-default : goal.returns-in-default
-returns-in-default c =
-    let missing = rule_missing (grammar_of c.args.sheet.now) c.from.result c.args.node.rule c.from.ensures c.in-default.ensures.rule in
+pub returns-in_default : goal.returns-in_default
+returns-in_default c =
+    let missing = rule_missing (grammar_of c.args.sheet.now) c.from.result c.args.node.rule c.from.ensures c.in_default.ensures.rule in
     refuses (λ s. omega (arith, s.rule_there, missing.1))
 
 pub returns-then-not-children-are-there : goal.returns-then-not-children-are-there

@@ -48,12 +48,12 @@ loop-i-preserved c =
         omega arith,
       )
       | in-default+then-is-some w ↦ (
-        ready (λ o a e. absurd (w.in-default.not-Evaluate o a e)),
+        ready (λ o a e. absurd (w.in_default.not-Evaluate o a e)),
         w.returns-is ∙ ap (λ n. n + 1) c.loop-i.invariant.1 ∙ sym (count_by_more_yes is_return plan i _ c.loop-i-test.true (turn_return _ _ w.turn-of.ensures ∙ sym w.is-some.ensures ∙ w.if-is-some.true)),
         omega arith,
       )
       | in-default+else-is-some w ↦ (
-        ready (λ o a e. absurd (w.in-default.not-Evaluate o a e)),
+        ready (λ o a e. absurd (w.in_default.not-Evaluate o a e)),
         w.returns-is ∙ c.loop-i.invariant.1 ∙ sym (count_by_more_no is_return plan i _ c.loop-i-test.true (turn_return _ _ w.turn-of.ensures ∙ sym w.is-some.ensures ∙ w.if-is-some.false)),
         omega arith,
       )

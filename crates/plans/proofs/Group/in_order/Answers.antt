@@ -6,7 +6,7 @@ use Rattle.plans.specs.PlanTests.{numbers_from, turns_of}
 use Rattle.plans.proofs.Telling.{order_decides}
 use Rattle.plans.proofs.TurnOrder.{order_from, order_none, order_other, order_more, order_wrong, order_over, order_end}
 use Rattle.plans.proofs.Group.in_order.Goals as goal
-use Rattle.plans.proofs.Group.in_order.Goals.{in-Some+else-done-visits+else-turn-done, in-default, then-done-visits-via-then-done-visits, then-done-visits-via-else-done-visits+then-turn-done}
+use Rattle.plans.proofs.Group.in_order.Goals.{in-Some+else-done-visits+else-turn-done, in_default, then-done-visits-via-then-done-visits, then-done-visits-via-else-done-visits+then-turn-done}
 
 pub loop-x-init : goal.loop-x-init
 loop-x-init c =
@@ -25,7 +25,7 @@ loop-x-preserved c =
       | in-Some+else-done-visits+else-turn-done w ↦
           let l : m < n = omega arith in
           (ap (λ d. order_from k n d (drop (i + 1) plan)) w.done-is ∙ order_more k n m plan i _ w.in-Some.turn c.loop-x-test.true w.in-Some.ensures l w.if-turn-done.false ∙ c.loop-x.invariant.0, omega arith)
-      | in-default w ↦ (ap (λ d. order_from k n d (drop (i + 1) plan)) w.done-is ∙ order_other k n m plan i _ c.loop-x-test.true w.in-default.ensures ∙ c.loop-x.invariant.0, omega arith)
+      | in_default w ↦ (ap (λ d. order_from k n d (drop (i + 1) plan)) w.done-is ∙ order_other k n m plan i _ c.loop-x-test.true w.in_default.ensures ∙ c.loop-x.invariant.0, omega arith)
     ]
 
 pub returns-then-done-visits : goal.returns-then-done-visits

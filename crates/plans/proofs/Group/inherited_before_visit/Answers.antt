@@ -14,7 +14,7 @@ loop-i-preserved c =
     upto_more (VisitReady σ plan) plan c.loop-i.i _ c.loop-i-test.true c.loop-i.invariant
     (elim c.match-x.branch [
       | in-Visit+else-not-evaluated-before w ↦ (visit_ready_lem σ plan c.loop-i.i _ _ _ _ _ w.in-Visit.is w.from.ensures w.evaluated-before.ensures).0 w.if-not-evaluated-before.false
-      | in-default w ↦ λ k j e. absurd (w.in-default.not-Visit k j e)
+      | in_default w ↦ λ k j e. absurd (w.in_default.not-Visit k j e)
     ])
 
 pub returns-then-not-evaluated-before : goal.returns-then-not-evaluated-before

@@ -17,7 +17,7 @@ loop-x-preserved c =
     upto_more (λ _ x. EvaluatesDefined (group_scope c.args.self.now) x) c.args.self.now.plan.now c.loop-x.x-index _ c.loop-x-test.true c.loop-x.invariant
     (elim c.match-x.branch [
       | in-Evaluate+else-not-defines w ↦ defined_like (group_scope c.args.self.now) _ _ _ w.in-Evaluate.is ((defines_decides (group_scope c.args.self.now) _ _).0 (sym (w.defines.ensures ∙ (λ i. defines (group_scope c.args.self.now) (w.from.ensures i) (w.from-in-Evaluate.ensures i))) ∙ w.if-not-defines.false))
-      | in-default w ↦ λ o a e. absurd (w.in-default.not-Evaluate o a e)
+      | in_default w ↦ λ o a e. absurd (w.in_default.not-Evaluate o a e)
     ])
 
 pub returns-then-not-defines : goal.returns-then-not-defines

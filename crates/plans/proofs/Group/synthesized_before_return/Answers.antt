@@ -14,7 +14,7 @@ loop-i-preserved c =
     upto_more (ReturnReady σ plan) plan c.loop-i.i _ c.loop-i-test.true c.loop-i.invariant
     (elim c.match-x.branch [
       | in-Return+else-not-evaluated-before w ↦ (return_ready_lem σ plan c.loop-i.i _ _ _ w.in-Return.is w.evaluated-before.ensures).0 w.if-not-evaluated-before.false
-      | in-default w ↦ λ j e. absurd (w.in-default.not-Return j e)
+      | in_default w ↦ λ j e. absurd (w.in_default.not-Return j e)
     ])
 
 pub returns-then-not-evaluated-before : goal.returns-then-not-evaluated-before

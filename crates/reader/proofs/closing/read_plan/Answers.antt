@@ -19,7 +19,7 @@ loop-placed-preserved c = (
 
 pub returns : goal.returns
 returns c = record {
-  read = read_all _ _ _ _ (subst (PlannedSoFar (left c.args.words) _ (vec_items c.args.plan.now) (vec_items c.loop-placed.plan)) c.if-many.false c.loop-placed.invariant.0) c.in-default.ensures.word;
+  read = read_all _ _ _ _ (subst (PlannedSoFar (left c.args.words) _ (vec_items c.args.plan.now) (vec_items c.loop-placed.plan)) c.if-many.false c.loop-placed.invariant.0) c.in_default.ensures.word;
   grows = c.loop-placed.invariant.2;
   capacity = c.loop-placed.invariant.1;
 }

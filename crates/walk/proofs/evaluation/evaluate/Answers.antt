@@ -12,8 +12,8 @@ use Rattle.walk.proofs.Evaluating.{ready, value_kept, tells_change}
 use Rattle.walk.proofs.Resulting.{evaluated}
 use Rattle.walk.proofs.evaluation.evaluate.Goals as goal
 
-pub returns-in-default : goal.returns-in-default
-returns-in-default g c = absurd ((ready _ _ _ c.requires.accepted c.requires.sound c.requires.meeting).equation_there c.in-default.ensures)
+pub returns-in_default : goal.returns-in_default
+returns-in_default g c = absurd ((ready _ _ _ c.requires.accepted c.requires.sound c.requires.meeting).equation_there c.in_default.ensures)
 
 pub result-of-new-requires : goal.result-of-new-requires
 result-of-new-requires g c =

@@ -7,8 +7,8 @@ use Rattle.words.proofs.Words.next_word.Goals as goal
 pub returns-in-Some : goal.returns-in-Some
 returns-in-Some c = record {
   word = (
-    ap left_in c.in-ok-text.was
-        ∙ ap (map lex) (parts_cut 32 c.in-ok-text.text.now (record { before = c.in-Some.first.now; after = c.in-Some.after.now }) c.in-Some.ensures.0)
+    ap left_in c.in_ok-text.was
+        ∙ ap (map lex) (parts_cut 32 c.in_ok-text.text.now (record { before = c.in-Some.first.now; after = c.in-Some.after.now }) c.in-Some.ensures.0)
         ∙ ap (λ (t : Token). t ∷ words_in c.in-Some.after.now) (sym c.of.ensures),
     refl,
   );
@@ -19,8 +19,8 @@ returns-in-Some c = record {
 pub returns-in-None : goal.returns-in-None
 returns-in-None c = record {
   word = (
-    ap left_in c.in-ok-text.was
-        ∙ ap (map lex) (parts_last 32 c.in-ok-text.text.now c.in-None.ensures)
+    ap left_in c.in_ok-text.was
+        ∙ ap (map lex) (parts_last 32 c.in_ok-text.text.now c.in-None.ensures)
         ∙ ap (λ (t : Token). t ∷ []) (sym c.of-in-None.ensures),
     refl,
   );

@@ -9,4 +9,4 @@ pub returns : goal.returns
 returns c =
     item_map symbol_of c.args.self.now.symbols.now c.from.result c.get.result c.get.ensures.lookup
     ∙ ap (slice_get (map symbol_of c.args.self.now.symbols.now)) c.from.ensures
-    ∙ ap (λ o. and_then o (slice_get (map symbol_of c.args.self.now.symbols.now))) c.in-ok-at.ensures
+    ∙ ap (λ o. and_then o (slice_get (map symbol_of c.args.self.now.symbols.now))) c.in_ok-at.ensures

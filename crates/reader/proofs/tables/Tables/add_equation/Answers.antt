@@ -7,14 +7,14 @@ use Rattle.reader.proofs.Stepping.{taken, set_room}
 use Rattle.reader.proofs.tables.Tables.add_equation.Goals as goal
 
 pub overflow-cast-function : goal.overflow-cast-function
-overflow-cast-function c = omega (arith, (set_room (state_of c.args.self.now) (set_of c.in-ok-set.set) c.in-None.ensures).small)
+overflow-cast-function c = omega (arith, (set_room (state_of c.args.self.now) (set_of c.in_ok-set.set) c.in-None.ensures).small)
 
 pub push-reserved-requires : goal.push-reserved-requires
 push-reserved-requires c =
-    omega (arith, (set_room (state_of c.args.self.now) (set_of c.in-ok-set.set) c.in-None.ensures).few, c.args.self.now.equation_room)
+    omega (arith, (set_room (state_of c.args.self.now) (set_of c.in_ok-set.set) c.in-None.ensures).few, c.args.self.now.equation_room)
 
-pub invariant-of-self : goal.invariant-of-self
-invariant-of-self c =
+pub invariant_of-self : goal.invariant_of-self
+invariant_of-self c =
     let t = c.args.self.now in (
       t.symbol_room,
       (
@@ -39,5 +39,5 @@ pub returns-in-None : goal.returns-in-None
 returns-in-None c =
     let t = c.args.self.now in
     let g = gained (vec_items t.equations) (vec_items c.push-reserved.new.self) _ (vec_items t.plan) (vec_items t.rules) t.opened (vec_len t.equations) (vec_len t.plan) t.equations.ok.0 t.plan.ok.0 c.push-reserved.ensures.items t.spans in
-    taken (state_of t) _ _ c.in-ok-set.ensures c.in-None.ensures
+    taken (state_of t) _ _ c.in_ok-set.ensures c.in-None.ensures
     ∙ (λ i. next (record { symbols = (state_of t).symbols; rules = g.rules i; opened = g.opened i; sets = sym c.push-reserved.ensures.len i; steps = (state_of t).steps }))

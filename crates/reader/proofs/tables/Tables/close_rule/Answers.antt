@@ -13,14 +13,14 @@ use Rattle.reader.proofs.Closed.{taken_out, open_here, closed_spans, row_fits_le
 use Rattle.reader.proofs.Stepping.{taken, refused}
 use Rattle.reader.proofs.tables.Tables.close_rule.Goals as goal
 
-pub invariant-of-self-in-Break· : goal.invariant-of-self-in-Break·
-invariant-of-self-in-Break· c =
+pub invariant_of-self-in-Break· : goal.invariant_of-self-in-Break·
+invariant_of-self-in-Break· c =
     let t = c.args.self.now in
     let g = taken_out t c.read-plan.new.plan c.take.new.self c.read-plan.ensures.grows c.take.ensures.after in
     (t.symbol_room, (t.rule_room, (t.equation_room, (omega (arith, c.read-plan.ensures.capacity, t.plan_room), (g.turn, (g.spans, tt))))))
 
-pub invariant-of-self-in-Some·-open-fault : goal.invariant-of-self-in-Some·-open-fault
-invariant-of-self-in-Some·-open-fault c =
+pub invariant_of-self-in-Some·-open-fault : goal.invariant_of-self-in-Some·-open-fault
+invariant_of-self-in-Some·-open-fault c =
     let t = c.args.self.now in
     let g = taken_out t c.read-plan.new.plan c.take.new.self c.read-plan.ensures.grows c.take.ensures.after in
     (t.symbol_room, (t.rule_room, (t.equation_room, (omega (arith, c.read-plan.ensures.capacity, t.plan_room), (g.turn, (g.spans, tt))))))
@@ -29,8 +29,8 @@ pub push-reserved-requires : goal.push-reserved-requires
 push-reserved-requires c =
     omega (arith, (open_here c.args.self.now c.in-Some.open (sym c.in-Some.ensures.value)).room, c.args.self.now.rule_room)
 
-pub invariant-of-self-in-None : goal.invariant-of-self-in-None
-invariant-of-self-in-None c =
+pub invariant_of-self-in-None : goal.invariant_of-self-in-None
+invariant_of-self-in-None c =
     let t = c.args.self.now in
     let o = open_here t c.in-Some.open (sym c.in-Some.ensures.value) in
     let row : RuleRow = record { left = c.in-Some.open.left; right = c.in-Some.open.right; equations = record { start = c.in-Some.open.start; end = c.len.result }; plan = record { start = c.len-before.result; end = c.len-in-None.result } } in (
@@ -57,7 +57,7 @@ invariant-of-self-in-None c =
 pub returns-in-Some-open-fault : goal.returns-in-Some-open-fault
 returns-in-Some-open-fault c =
     let t = c.args.self.now in
-    let p = plan_words (left c.args.words) (vec_items t.plan) (vec_items c.read-plan.new.plan) c.in-ok-read-plan.ensures.read in
+    let p = plan_words (left c.args.words) (vec_items t.plan) (vec_items c.read-plan.new.plan) c.in_ok-read-plan.ensures.read in
     refused (state_of t) _ (plan_line p.instructions) c.in-Some-open-fault.refusal p.says
     (c.in-Some-open-fault.ensures
     ∙ plan_judged t c.in-Some.open p.instructions c.deref.result.now _ _ (sym c.in-Some.ensures.value) c.deref.ensures.value
@@ -70,7 +70,7 @@ returns-in-None c =
     let t = c.args.self.now in
     let es = vec_items t.equations in
     let open' = c.in-Some.open in
-    let p = plan_words (left c.args.words) (vec_items t.plan) (vec_items c.read-plan.new.plan) c.in-ok-read-plan.ensures.read in
+    let p = plan_words (left c.args.words) (vec_items t.plan) (vec_items c.read-plan.new.plan) c.in_ok-read-plan.ensures.read in
     let is = p.instructions in
     let opened : t.opened ≡ Some open' = sym c.in-Some.ensures.value in
     let whole : take (c.len.result - open'.start) (drop open'.start es) ≡ drop open'.start es = ap (λ n. take (n - open'.start) (drop open'.start es)) (c.len.ensures ∙ t.equations.ok.0) ∙ take_rest es open'.start in

@@ -7,31 +7,31 @@ use Rattle.sheet.specs.Answers.{grammar_of, group_rule}
 use Rattle.sheet.proofs.Looking.{row_parts, row_rule}
 use Rattle.sheet.proofs.kept.Sheet.rule.Goals as goal
 
-pub returns-in-err-row : goal.returns-in-err-row
-returns-in-err-row c = record {
-  rule = ap (option_map group_rule) c.from-residual.ensures ∙ row_rule c.args.self.now.tables c.deref.result.now c.args.number None c.deref.ensures.value c.in-err-row.ensures.lookup;
+pub returns-in_err-row : goal.returns-in_err-row
+returns-in_err-row c = record {
+  rule = ap (option_map group_rule) c.from-residual.ensures ∙ row_rule c.args.self.now.tables c.deref.result.now c.args.number None c.deref.ensures.value c.in_err-row.ensures.lookup;
   symbols = subst (λ o. IfSome o (λ g. (group_scope g).symbols ≡ (grammar_of c.args.self.now).symbols)) (sym c.from-residual.ensures) tt;
 }
 
 pub part-equations-requires : goal.part-equations-requires
 part-equations-requires c =
-    let f = c.in-ok-row.ensures.lookup in
-    let p = row_parts c.args.self.now.tables c.deref.result.now c.args.number c.in-ok-row.row.now c.deref.ensures.value f.3.0 f.1 in
+    let f = c.in_ok-row.ensures.lookup in
+    let p = row_parts c.args.self.now.tables c.deref.result.now c.args.number c.in_ok-row.row.now c.deref.ensures.value f.3.0 f.1 in
     record { ordered = p.equations.ordered; inside = omega (arith, p.equations.inside, c.deref-3.ensures.len) }
 
 pub part-plan-requires : goal.part-plan-requires
 part-plan-requires c =
-    let f = c.in-ok-row.ensures.lookup in
-    let p = row_parts c.args.self.now.tables c.deref.result.now c.args.number c.in-ok-row.row.now c.deref.ensures.value f.3.0 f.1 in
+    let f = c.in_ok-row.ensures.lookup in
+    let p = row_parts c.args.self.now.tables c.deref.result.now c.args.number c.in_ok-row.row.now c.deref.ensures.value f.3.0 f.1 in
     record { ordered = p.plan.ordered; inside = omega (arith, p.plan.inside, c.deref-4.ensures.len) }
 
 pub returns : goal.returns
 returns c =
-    let row = c.in-ok-row.row.now in
+    let row = c.in_ok-row.row.now in
     let es = c.part-equations.ensures ∙ ap (part row.equations) c.deref-3.ensures.value in
     let is = c.part-plan.ensures ∙ ap (part row.plan) c.deref-4.ensures.value in
     record {
       rule = (λ i. Some (record { left = row.left; right = c.as-slice.ensures i; equations = map equation_of (es i); plan = is i }))
-          ∙ row_rule c.args.self.now.tables c.deref.result.now c.args.number (Some c.in-ok-row.row) c.deref.ensures.value c.in-ok-row.ensures.lookup;
+          ∙ row_rule c.args.self.now.tables c.deref.result.now c.args.number (Some c.in_ok-row.row) c.deref.ensures.value c.in_ok-row.ensures.lookup;
       symbols = ap (map symbol_of) c.deref-2.ensures.value;
     }

@@ -19,10 +19,10 @@ overflow-add-self-in-Returning-Visit c = omega (arith, next_small _ _ _ c.requir
 
 -- what the instruction names
 evaluates : (c : In-InPlan-Evaluate) → EvaluateHere (grammar_of c.args.sheet.now) c.args.places.now (stand_of c.args.self.now) c.in-InPlan-Evaluate.occurrence c.in-InPlan-Evaluate.attribute
-evaluates c = evaluate_here _ _ _ _ _ c.requires (sym c.instruction-at.ensures ∙ c.in-ok-instruction.was ∙ ap Some c.in-InPlan-Evaluate.is-1)
+evaluates c = evaluate_here _ _ _ _ _ c.requires (sym c.instruction-at.ensures ∙ c.in_ok-instruction.was ∙ ap Some c.in-InPlan-Evaluate.is-1)
 
 visits : (c : In-InPlan-Visit) → VisitHere (grammar_of c.args.sheet.now) c.args.places.now (stand_of c.args.self.now) c.in-InPlan-Visit.occurrence c.in-InPlan-Visit.visit
-visits c = visit_here _ _ _ _ _ c.requires (sym c.instruction-at.ensures ∙ c.in-ok-instruction.was ∙ ap Some c.in-InPlan-Visit.is-1)
+visits c = visit_here _ _ _ _ _ c.requires (sym c.instruction-at.ensures ∙ c.in_ok-instruction.was ∙ ap Some c.in-InPlan-Visit.is-1)
 
 pub occurrence-place-requires : goal.occurrence-place-requires
 occurrence-place-requires c = record { there = c.requires.place_used; few = (evaluates (at·occurrence-place-requires c).In-InPlan-Evaluate).few }

@@ -27,7 +27,7 @@ loop-self-smaller c = (turn (at·loop-self-less c).After-advance).falls
 
 pub loop-self-preserved : goal.loop-self-preserved
 loop-self-preserved c =
-    let v = subst (λ o. Moves (grammar_of c.args.sheet.now) c.args.places.now (stand_of c.loop-self.self) o (stand_of c.advance.new.self)) c.in-default.is
+    let v = subst (λ o. Moves (grammar_of c.args.sheet.now) c.args.places.now (stand_of c.loop-self.self) o (stand_of c.advance.new.self)) c.in_default.is
     (turn (at·loop-self-again c).After-advance) in
     (v.walking, c.loop-self.invariant.1 ∙ v.lists)
 

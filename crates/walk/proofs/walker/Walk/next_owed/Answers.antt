@@ -35,6 +35,6 @@ loop-found-preserved c =
 
 pub returns : goal.returns
 returns c =
-    let r = c.in-default.ensures in
+    let r = c.in_default.ensures in
     let i = c.loop-found.invariant.1 in
     record { walking = r.walking; unowed = subst (Unowed c.args.places.now) (sym (i.2 ∙ ap (λ z. i.0 ++ z) r.lists ∙ append-nil i.0)) i.1; rests = r.rests }
