@@ -1,5 +1,5 @@
 -- How bytes are cut at a separator.
-use Rattle.std.specs.Prelude.{◌≡◌, ℕ, ◌<◌, Bool, true, false, List, [], ◌∷◌, length, Some, None, Option, ◌==◌, ◌≢◌, slice_index}
+use Rattle.std.specs.Prelude.{ℕ, ◌<◌, Bool, true, false, List, [], ◌∷◌, length, Some, None, Option, ◌==◌, ◌≢◌, slice_index}
 
 -- c does not stand in xs
 abbrev pub Lacks : ℕ → List ℕ → Type 0

@@ -1,5 +1,5 @@
 use Rattle.std.proofs.Common.{length}
 use Rattle.blocks.proofs.judging.+measure_row.Given as goal
 
-abbrev pub decreases-measure-row : goal.decreases-measure-row
-decreases-measure-row l = length l.pieces.now
+abbrev pub decreases-measure_row : goal.decreases-measure_row
+decreases-measure_row l = length l.pieces.now

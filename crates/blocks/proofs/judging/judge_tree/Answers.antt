@@ -6,8 +6,8 @@ use Rattle.blocks.specs.declared.piece.BlockFault.TheVariants.{Depth}
 use Rattle.blocks.proofs.Rows.{tree_fault_lem, left_over}
 use Rattle.blocks.proofs.judging.judge_tree.Goals as goal
 
-pub returns-then-not-is-empty : goal.returns-then-not-is-empty
-returns-then-not-is-empty c =
+pub returns-then-not-is_empty : goal.returns-then-not-is_empty
+returns-then-not-is_empty c =
     let l : 1 ≤ length c.in-Some.rest.now = search rules in
     left_over (grammar_of c.args.sheet.now) c.args.symbol c.in-Some.deepest c.args.pieces.now c.in-Some.rest.now c.in-Some.ensures l
 

@@ -41,11 +41,11 @@ returns-in_err-beside t c =
     let m : 1 ≤ length c.args.pieces.now = search rules in
     none_case _ _ _ c.from-residual-in_err-beside.ensures
     (no_planting_beside (grammar_of c.args.sheet.now) c.args.up _ c.args.pieces.now _ _ c.in_ok-place.place c.args.count c.args.from _ _ _ _ _ c.args.places.now _ l
-    (front c.args.pieces.now (record { rule = 0; datum = 0 }) m) c.in_ok-place.ensures.found c.in_ok-kind.ensures c.first-below.result c.new-node.result c.first-below.ensures c.in_ok-below.ensures c.new-node.ensures c.in_err-beside.ensures)
+    (front c.args.pieces.now (record { rule = 0; datum = 0 }) m) c.in_ok-place.ensures.found c.in_ok-kind.ensures c.first_below.result c.new_node.result c.first_below.ensures c.in_ok-below.ensures c.new_node.ensures c.in_err-beside.ensures)
 
 pub returns : goal.returns
 returns t c =
     let l : 1 ≤ c.args.count = search rules in
     let m : 1 ≤ length c.args.pieces.now = search rules in
     planting_more (grammar_of c.args.sheet.now) c.args.up _ c.args.pieces.now _ _ c.in_ok-place.place c.args.count c.args.from _ _ _ _ _ c.args.places.now _ l
-    (front c.args.pieces.now (record { rule = 0; datum = 0 }) m) c.in_ok-place.ensures.found c.in_ok-kind.ensures c.first-below.result c.new-node.result c.first-below.ensures c.in_ok-below.ensures c.new-node.ensures _ _ _ _ _ c.in_ok-place.ensures.there.0 c.next-to.ensures c.in_ok-beside.ensures
+    (front c.args.pieces.now (record { rule = 0; datum = 0 }) m) c.in_ok-place.ensures.found c.in_ok-kind.ensures c.first_below.result c.new_node.result c.first_below.ensures c.in_ok-below.ensures c.new_node.ensures _ _ _ _ _ c.in_ok-place.ensures.there.0 c.next_to.ensures c.in_ok-beside.ensures

@@ -1,5 +1,5 @@
 use Rattle.std.proofs.Common.{length}
 use Rattle.blocks.proofs.planting.+plant_row.Given as goal
 
-abbrev pub decreases-plant-row : goal.decreases-plant-row
-decreases-plant-row l = length l.pieces.now
+abbrev pub decreases-plant_row : goal.decreases-plant_row
+decreases-plant_row l = length l.pieces.now

@@ -11,4 +11,4 @@ pub returns : goal.returns
 returns c =
     let g = grammar_of c.args.sheet.now in
     written g c.args.places.now c.args.block.now c.requires.judged c.requires.room (narrow g (judged_sound c.args.sheet.now (own_symbol g c.args.block.now) [] c.args.block.now c.requires.judged))
-    c.in-Some.planted.roots c.in-Some.planted.rest.now c.in-Some.planted.next c.plant-row.new.places c.in-Some.ensures
+    c.in-Some.planted.roots c.in-Some.planted.rest.now c.in-Some.planted.next c.plant_row.new.places c.in-Some.ensures

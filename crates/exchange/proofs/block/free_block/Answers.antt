@@ -14,16 +14,16 @@ loop-p-init c =
     let st : stacked c.push.new.self.cells.now c.push.new.self.len ≡ c.args.block ∷ [] = c.push.ensures.stack room ∙ ap (λ n. stacked c.over-path.result.cells.now n ++ c.args.block ∷ []) none in
     ((let l = ap length cells in let k = c.push.ensures.cells in let r = c.requires.room in omega arith), subst (Freeing c.args.places.now c.args.places.now c.args.block) (sym st) (freeing_starts (grammar_of c.args.sheet.now) c.args.places.now c.requires.sound c.args.block c.requires.there c.requires.top))
 
-pub used-child-requires : goal.used-child-requires
-used-child-requires c =
+pub used_child-requires : goal.used_child-requires
+used_child-requires c =
     let f = subst (Freeing c.args.places.now c.loop-p.places c.args.block) c.in-Some.ensures c.loop-p.invariant.1 in
     last_fits (grammar_of c.args.sheet.now) c.args.places.now c.requires.sound c.args.block c.loop-p.places (stacked c.loop-p.path.cells.now (c.loop-p.path.len - 1)) c.in-Some.p f
 
-module _ (c : goal.After-push-in-Some-used-child) where
-  down : (length (stacked c.loop-p.path.cells.now (c.loop-p.path.len - 1) ++ c.in-Some.p ∷ []) < 64) × Freeing c.args.places.now c.loop-p.places c.args.block ((stacked c.loop-p.path.cells.now (c.loop-p.path.len - 1) ++ c.in-Some.p ∷ []) ++ c.in-Some-used-child.child ∷ [])
+module _ (c : goal.After-push-in-Some-used_child) where
+  down : (length (stacked c.loop-p.path.cells.now (c.loop-p.path.len - 1) ++ c.in-Some.p ∷ []) < 64) × Freeing c.args.places.now c.loop-p.places c.args.block ((stacked c.loop-p.path.cells.now (c.loop-p.path.len - 1) ++ c.in-Some.p ∷ []) ++ c.in-Some-used_child.child ∷ [])
   down =
       let f = subst (Freeing c.args.places.now c.loop-p.places c.args.block) c.in-Some.ensures c.loop-p.invariant.1 in
-      went_down (grammar_of c.args.sheet.now) c.args.places.now c.requires.sound c.args.block c.loop-p.places (stacked c.loop-p.path.cells.now (c.loop-p.path.len - 1)) c.in-Some.p c.in-Some-used-child.child f c.in-Some-used-child.ensures
+      went_down (grammar_of c.args.sheet.now) c.args.places.now c.requires.sound c.args.block c.loop-p.places (stacked c.loop-p.path.cells.now (c.loop-p.path.len - 1)) c.in-Some.p c.in-Some-used_child.child f c.in-Some-used_child.ensures
 
   few : c.loop-p.path.len < 64
   few =
@@ -32,16 +32,16 @@ module _ (c : goal.After-push-in-Some-used-child) where
       let d = length-take-le c.loop-p.path.len c.loop-p.path.cells.now c.loop-p.path.ok in
       omega arith
 
-  pushed : c.push-in-Some-used-child.result ≡ true
-  pushed = c.push-in-Some-used-child.ensures.room ∙ lt-ltb _ _ (let a = few in let b = c.loop-p.invariant.0 in omega arith)
+  pushed : c.push-in-Some-used_child.result ≡ true
+  pushed = c.push-in-Some-used_child.ensures.room ∙ lt-ltb _ _ (let a = few in let b = c.loop-p.invariant.0 in omega arith)
 
-pub loop-p-smaller-in-Some-used-child : goal.loop-p-smaller-in-Some-used-child
-loop-p-smaller-in-Some-used-child c = let a = few c in let b = c.push-in-Some-used-child.ensures.len (pushed c) in omega arith
+pub loop-p-smaller-in-Some-used_child : goal.loop-p-smaller-in-Some-used_child
+loop-p-smaller-in-Some-used_child c = let a = few c in let b = c.push-in-Some-used_child.ensures.len (pushed c) in omega arith
 
-pub loop-p-preserved-in-Some-used-child : goal.loop-p-preserved-in-Some-used-child
-loop-p-preserved-in-Some-used-child c =
-    let st = c.push-in-Some-used-child.ensures.stack (pushed c) ∙ ap (λ z. z ++ c.in-Some-used-child.child ∷ []) c.in-Some.ensures in
-    ((let a = c.push-in-Some-used-child.ensures.cells in let b = c.loop-p.invariant.0 in omega arith), subst (Freeing c.args.places.now c.loop-p.places c.args.block) (sym st) (down c).1)
+pub loop-p-preserved-in-Some-used_child : goal.loop-p-preserved-in-Some-used_child
+loop-p-preserved-in-Some-used_child c =
+    let st = c.push-in-Some-used_child.ensures.stack (pushed c) ∙ ap (λ z. z ++ c.in-Some-used_child.child ∷ []) c.in-Some.ensures in
+    ((let a = c.push-in-Some-used_child.ensures.cells in let b = c.loop-p.invariant.0 in omega arith), subst (Freeing c.args.places.now c.loop-p.places c.args.block) (sym st) (down c).1)
 
 pub bounds-places-from : goal.bounds-places-from
 bounds-places-from c =

@@ -15,8 +15,8 @@ offset-bounds-node-k c = let h = c.arity-k-end.ensures.few in omega arith
 pub bounds-node-k : goal.bounds-node-k
 bounds-node-k c = let h = c.arity-k-end.ensures.few in omega arith
 
-pub returns-then-is-some : goal.returns-then-is-some
-returns-then-is-some c =
+pub returns-then-is_some : goal.returns-then-is_some
+returns-then-is_some c =
     let g = grammar_of c.args.sheet.now in
     let ps = c.args.places.now in
     let node = c.in_ok-node.node in

@@ -6,7 +6,7 @@ use Rattle.exchange.proofs.depth.height.Goals as goal
 pub loop-q-preserved : goal.loop-q-preserved
 loop-q-preserved c =
     let f = depth_in c.args.places.now c.args.block in
-    let e : c.max-most.result ≡ max c.loop-q.most (f c.loop-q.q) = c.max-most.ensures ∙ ap (λ k. max c.loop-q.most k) c.depth-in.ensures in
+    let e : c.max-most.result ≡ max c.loop-q.most (f c.loop-q.q) = c.max-most.ensures ∙ ap (λ k. max c.loop-q.most k) c.depth_in.ensures in
     subst (Largest f (c.loop-q.q + 1)) (sym e) (largest_more f c.loop-q.q c.loop-q.most c.loop-q.invariant)
 
 pub returns : goal.returns

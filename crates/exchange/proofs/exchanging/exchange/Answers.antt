@@ -8,8 +8,8 @@ use Rattle.exchange.proofs.Soundness.{sound_fits_at, hangs, position_few}
 use Rattle.exchange.proofs.Targets.{used_within}
 use Rattle.exchange.proofs.exchanging.exchange.Goals as goal
 
-pub parent-of-requires : goal.parent-of-requires
-parent-of-requires c = used_within c.args.places.now c.args.target c.requires.target
+pub parent_of-requires : goal.parent_of-requires
+parent_of-requires c = used_within c.args.places.now c.args.target c.requires.target
 
 pub hang-requires : goal.hang-requires
 hang-requires c =
@@ -26,8 +26,8 @@ hang-requires c =
       last = position_few c.args.sheet.now ps c.requires.sound c.args.target u h;
     }
 
-pub wake-inherited-requires : goal.wake-inherited-requires
-wake-inherited-requires c =
+pub wake_inherited-requires : goal.wake_inherited-requires
+wake_inherited-requires c =
     let g = grammar_of c.args.sheet.now in
     let ps = c.args.places.now in
     let u = c.in-Some.parent in
@@ -35,8 +35,8 @@ wake-inherited-requires c =
     let k = hung_used ps c.args.target c.args.held (Some u) c.args.held c.requires.held in
     subst (λ z. EveryFits g z c.args.held) (sym c.hang.ensures) f (ap (λ z. is_some (at z c.args.held)) c.hang.ensures ∙ k)
 
-pub mark-takers-requires : goal.mark-takers-requires
-mark-takers-requires c =
+pub mark_takers-requires : goal.mark_takers-requires
+mark_takers-requires c =
     let g = grammar_of c.args.sheet.now in
     let ps = c.args.places.now in
     let u = c.in-Some.parent in
@@ -45,10 +45,10 @@ mark-takers-requires c =
     let f = hung_fits g ps c.args.target c.args.held u (used_within ps c.args.held c.requires.held) (sound_fits_at g ps c.requires.sound) u.place in
     let k = hung_used ps c.args.target c.args.held (Some u) u.place (ap is_some h.there) in
     let v = subst (λ z. EveryFits g z u.place) (sym c.hang.ensures) f in
-    remarked_fits g c.hang.new.places c.wake-inherited.new.places c.wake-inherited.ensures u.place v (remarked_used c.hang.new.places c.wake-inherited.new.places u.place c.wake-inherited.ensures ∙ ap (λ z. is_some (at z u.place)) c.hang.ensures ∙ k)
+    remarked_fits g c.hang.new.places c.wake_inherited.new.places c.wake_inherited.ensures u.place v (remarked_used c.hang.new.places c.wake_inherited.new.places u.place c.wake_inherited.ensures ∙ ap (λ z. is_some (at z u.place)) c.hang.ensures ∙ k)
 
 pub returns-in-Some : goal.returns-in-Some
 returns-in-Some c =
     let ps = c.args.places.now in
     let e : parent_at ps c.args.target ≡ Some c.in-Some.parent = search rules in
-    exchanged (grammar_of c.args.sheet.now) ps c.hang.new.places c.wake-inherited.new.places c.mark-takers.new.places c.args.target c.args.held c.in-Some.parent e c.hang.ensures c.wake-inherited.ensures c.mark-takers.ensures
+    exchanged (grammar_of c.args.sheet.now) ps c.hang.new.places c.wake_inherited.new.places c.mark_takers.new.places c.args.target c.args.held c.in-Some.parent e c.hang.ensures c.wake_inherited.ensures c.mark_takers.ensures

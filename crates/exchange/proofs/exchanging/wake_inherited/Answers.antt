@@ -34,8 +34,8 @@ returns-in_default-rule c =
     let f : Fits g ps c.in-Some.node = subst (FitsThere g ps) e c.requires in
     absurd (rule_there g c.in-Some.node.rule f.rule_there (search rules))
 
-pub wake-if-inherited-requires : goal.wake-if-inherited-requires
-wake-if-inherited-requires c =
+pub wake_if_inherited-requires : goal.wake_if_inherited-requires
+wake_if_inherited-requires c =
     let h = used_within c.args.places.now c.args.p (fits_used (grammar_of c.args.sheet.now) c.args.places.now c.args.p c.requires) in
     let l = c.loop-a.invariant.long in
     record { there = omega arith; few = omega arith }
@@ -48,9 +48,9 @@ loop-a-preserved c =
     let e : at ps c.args.p ≡ Some c.in-Some.node = search rules in
     let r : option_map group_rule (Some k) ≡ slice_get g.rules c.in-Some.node.rule = search rules in
     let s : (group_scope k).symbols ≡ g.symbols = search rules in
-    woke_more ps c.loop-a.places c.wake-if-inherited.new.places _ (λ x. is_at c.args.p c.loop-a.a x && takes (group_scope k) 0 c.loop-a.a) _
+    woke_more ps c.loop-a.places c.wake_if_inherited.new.places _ (λ x. is_at c.args.p c.loop-a.a x && takes (group_scope k) 0 c.loop-a.a) _
     (inherited_more (λ a. flows Inherited (slice_get (attributes_at_lem g (table g ps) c.args.p) a)) c.args.p c.loop-a.a (takes (group_scope k) 0 c.loop-a.a) (taken_left g ps c.args.p c.loop-a.a c.in-Some.node k e r s))
-    c.loop-a.invariant c.wake-if-inherited.ensures
+    c.loop-a.invariant c.wake_if_inherited.ensures
 
 pub returns : goal.returns
 returns c =

@@ -31,8 +31,8 @@ returns-in_default-rule c =
     let f : Fits g ps node = subst (FitsThere g ps) e c.requires in
     absurd (rule_there g node.rule f.rule_there (search rules))
 
-pub wake-target-requires : goal.wake-target-requires
-wake-target-requires c =
+pub wake_target-requires : goal.wake_target-requires
+wake_target-requires c =
     let g = grammar_of c.args.sheet.now in
     let ps = c.args.places.now in
     let node = c.in-Some.node in
@@ -58,7 +58,7 @@ loop-equation-preserved c =
     let same : map equation_of es ≡ (rule g node.rule).equations = ap (λ ρ. ρ.equations) (group_rule_lem g node.rule c.in-Some-rule.group k) in
     let t : Ready g ps c.args.p node c.equation-item.result = ready g ps c.args.p node (sound_sheet c.args.sheet.now node.rule f.rule_there) f l es same c.loop-equation.equation-index c.equation-item.result c.loop-equation-test.true c.equation-item.is in
     let kids = at_of c.args.p (firsts (arity g node.rule) node.children) in
-    woke_more ps c.loop-equation.places c.wake-target.new.places _ (wakes (at_of c.args.p node.children) c.args.from (equation_of c.equation-item.result)) _ (takers_more kids (at_of c.args.p node.children) c.args.from es c.loop-equation.equation-index c.equation-item.result c.loop-equation-test.true c.equation-item.is t.kid) c.loop-equation.invariant c.wake-target.ensures
+    woke_more ps c.loop-equation.places c.wake_target.new.places _ (wakes (at_of c.args.p node.children) c.args.from (equation_of c.equation-item.result)) _ (takers_more kids (at_of c.args.p node.children) c.args.from es c.loop-equation.equation-index c.equation-item.result c.loop-equation-test.true c.equation-item.is t.kid) c.loop-equation.invariant c.wake_target.ensures
 
 pub returns : goal.returns
 returns c =

@@ -5,11 +5,11 @@ use Rattle.lines.specs.Faults.{has_target}
 use Rattle.lines.proofs.Completing.{below_all, below_not}
 use Rattle.lines.proofs.faults.complete_at.Goals as goal
 
-pub returns-then-not-has-target : goal.returns-then-not-has-target
-returns-then-not-has-target c =
+pub returns-then-not-has_target : goal.returns-then-not-has_target
+returns-then-not-has_target c =
     let p : ℕ → Bool = λ a. not (defines (scope_of c.args.production) c.args.occurrence a) || has_target (map equation_of c.args.equations.now) c.args.occurrence a in
     sym (below_not p (attributes_at (scope_of c.args.production) c.args.occurrence) c.loop-a.a (omega (arith, c.attributes-a-end.ensures.count, c.loop-a-test.true))
-    (λ i. not (sym c.if-defines.ensures i) || sym c.if-not-has-target.ensures i))
+    (λ i. not (sym c.if-defines.ensures i) || sym c.if-not-has_target.ensures i))
 
 pub returns : goal.returns
 returns c =

@@ -6,14 +6,14 @@ use Rattle.lines.specs.Faults.{has_target}
 use Rattle.lines.proofs.Trying.{some_more, some_found}
 use Rattle.lines.proofs.faults.has_target.Goals as goal
 
-pub returns-then-is-target : goal.returns-then-is-target
-returns-then-is-target c =
-    some_found (λ e. targets e c.args.occurrence c.args.attribute) equation_of c.args.equations.now c.loop-e.e-index c.e-item.result c.loop-e-test.true c.e-item.is c.if-is-target.ensures
+pub returns-then-is_target : goal.returns-then-is_target
+returns-then-is_target c =
+    some_found (λ e. targets e c.args.occurrence c.args.attribute) equation_of c.args.equations.now c.loop-e.e-index c.e-item.result c.loop-e-test.true c.e-item.is c.if-is_target.ensures
     ∙ c.loop-e.invariant
 
 pub loop-e-preserved : goal.loop-e-preserved
 loop-e-preserved c =
-    some_more (λ e. targets e c.args.occurrence c.args.attribute) equation_of c.args.equations.now c.loop-e.e-index c.e-item.result c.loop-e-test.true c.e-item.is c.if-is-target.ensures
+    some_more (λ e. targets e c.args.occurrence c.args.attribute) equation_of c.args.equations.now c.loop-e.e-index c.e-item.result c.loop-e-test.true c.e-item.is c.if-is_target.ensures
     ∙ c.loop-e.invariant
 
 pub returns : goal.returns

@@ -15,8 +15,8 @@ first : (ss : List SymbolRow) (v : ℕ) (xs : List Attribute) → length ss ≡ 
 first [] v xs h = refl
 first (s ∷ ss) v xs h = absurd (omega arith)
 
-pub returns-then-not-is-empty : goal.returns-then-not-is-empty
-returns-then-not-is-empty c = later c.args.symbols.now c.args.symbol.now.visits (listed c.args.symbol.now.attributes) (eqb-false (length c.args.symbols.now) 0 (sym c.if-not-is-empty.ensures))
+pub returns-then-not-is_empty : goal.returns-then-not-is_empty
+returns-then-not-is_empty c = later c.args.symbols.now c.args.symbol.now.visits (listed c.args.symbol.now.attributes) (eqb-false (length c.args.symbols.now) 0 (sym c.if-not-is_empty.ensures))
 
 pub returns : goal.returns
-returns c = c.start-symbol.ensures ∙ first c.args.symbols.now c.args.symbol.now.visits (listed c.args.symbol.now.attributes) (eqb-true (length c.args.symbols.now) 0 (sym c.if-not-is-empty.ensures))
+returns c = c.start_symbol.ensures ∙ first c.args.symbols.now c.args.symbol.now.visits (listed c.args.symbol.now.attributes) (eqb-true (length c.args.symbols.now) 0 (sym c.if-not-is_empty.ensures))

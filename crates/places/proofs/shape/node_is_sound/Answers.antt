@@ -14,11 +14,11 @@ returns-in_default c =
     let missing = rule_missing (grammar_of c.args.sheet.now) c.from.result c.args.node.rule c.from.ensures c.in_default.ensures.rule in
     refuses (λ s. omega (arith, s.rule_there, missing.1))
 
-pub returns-then-not-children-are-there : goal.returns-then-not-children-are-there
-returns-then-not-children-are-there c =
+pub returns-then-not-children_are_there : goal.returns-then-not-children_are_there
+returns-then-not-children_are_there c =
     let found = rule_found (grammar_of c.args.sheet.now) c.from.result c.args.node.rule (group_rule c.in-Some.field-0) c.from.ensures c.in-Some.ensures.rule in
     let All-there : Rule → Type 0 = λ r. (k : ℕ) → k < length r.right → ChildThere (grammar_of c.args.sheet.now) c.args.p k (get_or r.right k 0) (at c.args.places.now (get_or c.args.node.children k 0)) in
-    refuses (λ s. false≢true (c.if-not-children-are-there.ensures.1 (subst All-there found.0 s.children_there)))
+    refuses (λ s. false≢true (c.if-not-children_are_there.ensures.1 (subst All-there found.0 s.children_there)))
 
 pub returns-then-climb : goal.returns-then-climb
 returns-then-climb c =
@@ -30,10 +30,10 @@ returns-then-climb c =
       (λ e. record {
         rule_there = found.1;
         row = omega (arith, c.well-formed.1.1.1.0);
-        children_there = subst All-there (sym found.0) (c.if-not-children-are-there.ensures.0 refl);
-        parent_there = c.if-not-parent-is-there.ensures.0 refl;
+        children_there = subst All-there (sym found.0) (c.if-not-children_are_there.ensures.0 refl);
+        parent_there = c.if-not-parent_is_there.ensures.0 refl;
         ends = sym c.climb.ensures.ended_is ∙ c.if-climb.true;
-        marks_there = subst (λ n. c.args.node.marks < 2 ^ n) count (c.marks-fit.ensures.0 e);
+        marks_there = subst (λ n. c.args.node.marks < 2 ^ n) count (c.marks_fit.ensures.0 e);
       }),
-      λ s. c.marks-fit.ensures.1 (subst (λ n. c.args.node.marks < 2 ^ n) (sym count) s.marks_there),
+      λ s. c.marks_fit.ensures.1 (subst (λ n. c.args.node.marks < 2 ^ n) (sym count) s.marks_there),
     )

@@ -3,12 +3,12 @@ use Rattle.std.proofs.lemmas.List.{take_all}
 use Rattle.std.proofs.lemmas.List.Sums.{count_by_more_yes, count_by_more_no}
 use Rattle.places.specs.Totals.{free_in, is_free}
 use Rattle.places.proofs.totals.free_places.Goals as goal
-use Rattle.places.proofs.totals.free_places.Goals.{then-is-none, else-is-none}
+use Rattle.places.proofs.totals.free_places.Goals.{then-is_none, else-is_none}
 
 pub loop-place-preserved : goal.loop-place-preserved
-loop-place-preserved c = elim c.if-is-none.branch [
-  | then-is-none w ↦ (w.free_is ∙ ap (λ n. n + 1) c.loop-place.invariant.0 ∙ sym (count_by_more_yes is_free c.args.places.now c.loop-place.place-index None c.loop-place-test.true (ap not w.if-is-none.ensures)), omega (arith, w.free_is, c.loop-place.invariant.1))
-  | else-is-none w ↦ (w.free_is ∙ c.loop-place.invariant.0 ∙ sym (count_by_more_no is_free c.args.places.now c.loop-place.place-index None c.loop-place-test.true (ap not w.if-is-none.ensures)), omega (arith, w.free_is, c.loop-place.invariant.1))
+loop-place-preserved c = elim c.if-is_none.branch [
+  | then-is_none w ↦ (w.free_is ∙ ap (λ n. n + 1) c.loop-place.invariant.0 ∙ sym (count_by_more_yes is_free c.args.places.now c.loop-place.place-index None c.loop-place-test.true (ap not w.if-is_none.ensures)), omega (arith, w.free_is, c.loop-place.invariant.1))
+  | else-is_none w ↦ (w.free_is ∙ c.loop-place.invariant.0 ∙ sym (count_by_more_no is_free c.args.places.now c.loop-place.place-index None c.loop-place-test.true (ap not w.if-is_none.ensures)), omega (arith, w.free_is, c.loop-place.invariant.1))
 ]
 
 pub returns : goal.returns

@@ -9,13 +9,13 @@ use Rattle.places.proofs.totals.owed_total.Goals as goal
 pub overflow-add-owed : goal.overflow-add-owed
 overflow-add-owed c =
     let most = owed_most (marks_in (at c.args.places.now c.loop-place.place-index)) 16 in
-    let is : c.owed-in-owed.result ≡ owed_in (at c.args.places.now c.loop-place.place-index) = c.owed-in-owed.ensures in
+    let is : c.owed_in-owed.result ≡ owed_in (at c.args.places.now c.loop-place.place-index) = c.owed_in-owed.ensures in
     omega (arith, c.loop-place.invariant.1)
 
 pub loop-place-preserved : goal.loop-place-preserved
 loop-place-preserved c =
     let most = owed_most (marks_in (at c.args.places.now c.loop-place.place-index)) 16 in
-    let is : c.owed-in-owed.result ≡ owed_in (at c.args.places.now c.loop-place.place-index) = c.owed-in-owed.ensures in (
+    let is : c.owed_in-owed.result ≡ owed_in (at c.args.places.now c.loop-place.place-index) = c.owed_in-owed.ensures in (
       (λ i. c.loop-place.invariant.0 i + is i) ∙ sym (sum_by_more owed_in c.args.places.now c.loop-place.place-index None c.loop-place-test.true),
       omega (arith, c.loop-place.invariant.1),
     )

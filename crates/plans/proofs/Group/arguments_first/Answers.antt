@@ -11,13 +11,13 @@ use Rattle.plans.proofs.Ready.{Follows, EvaluationReady, evaluation_from, evalua
 use Rattle.plans.proofs.Telling.{arguments_from, arguments_at}
 use Rattle.plans.proofs.TurnOrder.{turn_return}
 use Rattle.plans.proofs.Group.arguments_first.Goals as goal
-use Rattle.plans.proofs.Group.arguments_first.Goals.{in-Evaluate+else-loop-equation-test, in-default+then-is-some, in-default+else-is-some, then-equation-o+then-equation-a+else-loop-argument-test, else-equation-o, else-equation-o-via-then-equation-o+else-equation-a, else-equation-o-via-else-equation-o}
+use Rattle.plans.proofs.Group.arguments_first.Goals.{in-Evaluate+else-loop-equation-test, in_default+then-is_some, in_default+else-is_some, then-equation-o+then-equation-a+else-loop-argument-test, else-equation-o, else-equation-o-via-then-equation-o+else-equation-a, else-equation-o-via-else-equation-o}
 
 pub loop-argument-preserved : goal.loop-argument-preserved
 loop-argument-preserved c =
     let σ = group_scope c.args.self.now in
     let plan = c.args.self.now.plan.now in
-    upto_more (λ _ t. Known σ plan c.loop-i.i t) c.as-slice-argument-items.result.now c.loop-argument.argument-index _ c.loop-argument-test.true c.loop-argument.invariant
+    upto_more (λ _ t. Known σ plan c.loop-i.i t) c.as_slice-argument-items.result.now c.loop-argument.argument-index _ c.loop-argument-test.true c.loop-argument.invariant
     ((Decides-at _ _ c.known.ensures (known_decides σ plan c.loop-i.i _)).0 c.if-not-known.false)
 
 pub loop-equation-preserved : goal.loop-equation-preserved
@@ -28,7 +28,7 @@ loop-equation-preserved c =
     upto_read (λ _ e. Follows σ plan i c.in-Evaluate.o c.in-Evaluate.a (equation_of e)) c.args.self.now.equations.now c.loop-equation.equation-index c.equation-item.result c.loop-equation-test.true c.equation-item.is c.loop-equation.invariant
     (λ to. elim c.if-equation-o.branch [
       | then-equation-o+then-equation-a+else-loop-argument-test w ↦
-          subst (All (Known σ plan i)) w.as-slice-argument-items.ensures (throughout_all (Known σ plan i) _ (upto_all _ _ _ w.loop-argument-test.false w.loop-argument.invariant))
+          subst (All (Known σ plan i)) w.as_slice-argument-items.ensures (throughout_all (Known σ plan i) _ (upto_all _ _ _ w.loop-argument-test.false w.loop-argument.invariant))
       | else-equation-o w ↦ elim w.else-equation-o.branch [
         | else-equation-o-via-then-equation-o+else-equation-a v ↦ absurd (v.if-equation-a.false to.1)
         | else-equation-o-via-else-equation-o v ↦ absurd (v.if-equation-o.false to.0)
@@ -47,14 +47,14 @@ loop-i-preserved c =
         w.returns-is ∙ c.loop-i.invariant.1 ∙ sym (count_by_more_no is_return plan i _ c.loop-i-test.true (ap is_return w.in-Evaluate.is)),
         omega arith,
       )
-      | in-default+then-is-some w ↦ (
+      | in_default+then-is_some w ↦ (
         ready (λ o a e. absurd (w.in_default.not-Evaluate o a e)),
-        w.returns-is ∙ ap (λ n. n + 1) c.loop-i.invariant.1 ∙ sym (count_by_more_yes is_return plan i _ c.loop-i-test.true (turn_return _ _ w.turn-of.ensures ∙ sym w.is-some.ensures ∙ w.if-is-some.true)),
+        w.returns-is ∙ ap (λ n. n + 1) c.loop-i.invariant.1 ∙ sym (count_by_more_yes is_return plan i _ c.loop-i-test.true (turn_return _ _ w.turn_of.ensures ∙ sym w.is_some.ensures ∙ w.if-is_some.true)),
         omega arith,
       )
-      | in-default+else-is-some w ↦ (
+      | in_default+else-is_some w ↦ (
         ready (λ o a e. absurd (w.in_default.not-Evaluate o a e)),
-        w.returns-is ∙ c.loop-i.invariant.1 ∙ sym (count_by_more_no is_return plan i _ c.loop-i-test.true (turn_return _ _ w.turn-of.ensures ∙ sym w.is-some.ensures ∙ w.if-is-some.false)),
+        w.returns-is ∙ c.loop-i.invariant.1 ∙ sym (count_by_more_no is_return plan i _ c.loop-i-test.true (turn_return _ _ w.turn_of.ensures ∙ sym w.is_some.ensures ∙ w.if-is_some.false)),
         omega arith,
       )
     ]
@@ -69,8 +69,8 @@ returns-then-not-known c =
     let ready = upto_here (EvaluationReady σ (group_equations c.args.self.now) plan) plan i _ c.loop-i-test.true (arguments_at σ (group_equations c.args.self.now) plan h) in
     let each = evaluation_at σ rows plan i _ c.in-Evaluate.o c.in-Evaluate.a c.in-Evaluate.is ready in
     let all = here_read _ rows c.loop-equation.equation-index c.equation-item.result c.loop-equation-test.true c.equation-item.is each (c.if-equation-o.true, c.if-equation-a.true) in
-    let listed = all_throughout (Known σ plan i) c.as-slice-argument-items.result.now (subst (All (Known σ plan i)) (sym c.as-slice-argument-items.ensures) all) in
-    not_from_Decides _ (Decides-at _ _ c.known.ensures (known_decides σ plan i _)) c.if-not-known.true (upto_here (λ _ t. Known σ plan i t) c.as-slice-argument-items.result.now c.loop-argument.argument-index _ c.loop-argument-test.true listed)
+    let listed = all_throughout (Known σ plan i) c.as_slice-argument-items.result.now (subst (All (Known σ plan i)) (sym c.as_slice-argument-items.ensures) all) in
+    not_from_Decides _ (Decides-at _ _ c.known.ensures (known_decides σ plan i _)) c.if-not-known.true (upto_here (λ _ t. Known σ plan i t) c.as_slice-argument-items.result.now c.loop-argument.argument-index _ c.loop-argument-test.true listed)
 
 pub returns-after-loop-i : goal.returns-after-loop-i
 returns-after-loop-i c = shown (arguments_from (group_scope c.args.self.now) (group_equations c.args.self.now) _ (upto_all _ _ _ c.loop-i-test.false c.loop-i.invariant.0))

@@ -21,7 +21,7 @@ loop-x-preserved c =
     let n = c.visits-visits.result in
     let m = c.loop-x.done in
     let i = c.loop-x.x-index in
-    elim c.match-turn-of.branch [
+    elim c.match-turn_of.branch [
       | in-Some+else-done-visits+else-turn-done w ↦
           let l : m < n = omega arith in
           (ap (λ d. order_from k n d (drop (i + 1) plan)) w.done-is ∙ order_more k n m plan i _ w.in-Some.turn c.loop-x-test.true w.in-Some.ensures l w.if-turn-done.false ∙ c.loop-x.invariant.0, omega arith)

@@ -7,10 +7,10 @@ use Rattle.plans.proofs.Deciding.{shown, refuted}
 use Rattle.plans.proofs.Defining.{OnceAt, EvaluatesDefined, once_everywhere, evaluations_from, defined_at, defined_like}
 use Rattle.plans.proofs.Places.{upto_more, upto_all, upto_here}
 use Rattle.plans.proofs.Group.one_evaluation.Goals as goal
-use Rattle.plans.proofs.Group.one_evaluation.Goals.{in-Evaluate+else-not-defines, in-default}
+use Rattle.plans.proofs.Group.one_evaluation.Goals.{in-Evaluate+else-not-defines, in_default}
 
 pub loop-k-preserved : goal.loop-k-preserved
-loop-k-preserved c = below_more (λ k. OnceAt (group_scope c.args.self.now) c.args.self.now.plan.now (k + 1)) c.loop-k.k c.loop-k.invariant (c.each-once-in-loop-k.ensures.0 c.if-not-each-once.false)
+loop-k-preserved c = below_more (λ k. OnceAt (group_scope c.args.self.now) c.args.self.now.plan.now (k + 1)) c.loop-k.k c.loop-k.invariant (c.each_once-in-loop-k.ensures.0 c.if-not-each_once.false)
 
 pub loop-x-preserved : goal.loop-x-preserved
 loop-x-preserved c =
@@ -28,5 +28,5 @@ returns-then-not-defines c =
 pub returns-after-loop-x : goal.returns-after-loop-x
 returns-after-loop-x c =
     shown (evaluations_from (group_scope c.args.self.now) _
-    (once_everywhere (group_scope c.args.self.now) _ _ refl (c.each-once.ensures.0 c.if-check.false) (λ k l. c.loop-k.invariant k (omega arith)))
+    (once_everywhere (group_scope c.args.self.now) _ _ refl (c.each_once.ensures.0 c.if-check.false) (λ k l. c.loop-k.invariant k (omega arith)))
     (upto_all _ _ _ c.loop-x-test.false c.loop-x.invariant))

@@ -5,7 +5,7 @@ use Rattle.plans.proofs.Places.{upto_more, upto_all, upto_here}
 use Rattle.plans.proofs.Ready.{ReturnReady, return_ready_lem}
 use Rattle.plans.proofs.Telling.{synthesized_from, synthesized_at}
 use Rattle.plans.proofs.Group.synthesized_before_return.Goals as goal
-use Rattle.plans.proofs.Group.synthesized_before_return.Goals.{in-Return+else-not-evaluated-before, in-default}
+use Rattle.plans.proofs.Group.synthesized_before_return.Goals.{in-Return+else-not-evaluated_before, in_default}
 
 pub loop-i-preserved : goal.loop-i-preserved
 loop-i-preserved c =
@@ -13,16 +13,16 @@ loop-i-preserved c =
     let plan = c.args.self.now.plan.now in
     upto_more (ReturnReady σ plan) plan c.loop-i.i _ c.loop-i-test.true c.loop-i.invariant
     (elim c.match-x.branch [
-      | in-Return+else-not-evaluated-before w ↦ (return_ready_lem σ plan c.loop-i.i _ _ _ w.in-Return.is w.evaluated-before.ensures).0 w.if-not-evaluated-before.false
+      | in-Return+else-not-evaluated_before w ↦ (return_ready_lem σ plan c.loop-i.i _ _ _ w.in-Return.is w.evaluated_before.ensures).0 w.if-not-evaluated_before.false
       | in_default w ↦ λ j e. absurd (w.in_default.not-Return j e)
     ])
 
-pub returns-then-not-evaluated-before : goal.returns-then-not-evaluated-before
-returns-then-not-evaluated-before c =
+pub returns-then-not-evaluated_before : goal.returns-then-not-evaluated_before
+returns-then-not-evaluated_before c =
     let σ = group_scope c.args.self.now in
     let plan = c.args.self.now.plan.now in
-    let ready = return_ready_lem σ plan c.loop-i.i _ _ _ c.in-Return.is c.evaluated-before.ensures in
-    refuted λ h. not_from_Decides _ ready c.if-not-evaluated-before.true (upto_here (ReturnReady σ plan) plan c.loop-i.i _ c.loop-i-test.true (synthesized_at σ plan h))
+    let ready = return_ready_lem σ plan c.loop-i.i _ _ _ c.in-Return.is c.evaluated_before.ensures in
+    refuted λ h. not_from_Decides _ ready c.if-not-evaluated_before.true (upto_here (ReturnReady σ plan) plan c.loop-i.i _ c.loop-i-test.true (synthesized_at σ plan h))
 
 pub returns : goal.returns
 returns c = shown (synthesized_from (group_scope c.args.self.now) _ (upto_all _ _ _ c.loop-i-test.false c.loop-i.invariant))

@@ -7,11 +7,11 @@ use Rattle.plans.proofs.TurnsByPlace.{visits_from, visits_at_lem}
 use Rattle.plans.proofs.Group.visits_in_order.Goals as goal
 
 pub loop-k-preserved : goal.loop-k-preserved
-loop-k-preserved c = below_more (λ k. TurnsInOrder (group_scope c.args.self.now) (group_plan c.args.self.now) (k + 1)) c.loop-k.k c.loop-k.invariant (c.in-order.ensures.0 c.if-not-in-order.false)
+loop-k-preserved c = below_more (λ k. TurnsInOrder (group_scope c.args.self.now) (group_plan c.args.self.now) (k + 1)) c.loop-k.k c.loop-k.invariant (c.in_order.ensures.0 c.if-not-in_order.false)
 
-pub returns-then-not-in-order : goal.returns-then-not-in-order
-returns-then-not-in-order c =
-    refuted λ h. not_from_Decides _ c.in-order.ensures c.if-not-in-order.true
+pub returns-then-not-in_order : goal.returns-then-not-in_order
+returns-then-not-in_order c =
+    refuted λ h. not_from_Decides _ c.in_order.ensures c.if-not-in_order.true
     (visits_at_lem (group_scope c.args.self.now) _ (c.loop-k.k + 1) (omega arith) (h (c.loop-k.k + 1) (omega arith) (omega arith)))
 
 pub returns : goal.returns

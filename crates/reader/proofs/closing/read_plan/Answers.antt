@@ -5,9 +5,9 @@ use Rattle.reader.proofs.closing.read_plan.Goals as goal
 
 pub loop-placed-preserved-then-len-lt1024 : goal.loop-placed-preserved-then-len-lt1024
 loop-placed-preserved-then-len-lt1024 c = (
-  one_pushed _ _ _ (vec_items c.loop-placed.plan) _ _ _ _ _ c.loop-placed.invariant.0 c.in-Some.ensures.word.0 c.in-Some-read.ensures (omega (arith, c.len.ensures, c.loop-placed.plan.ok.0)) c.push-reserved.ensures.items,
-  c.push-reserved.ensures.capacity ∙ c.loop-placed.invariant.1,
-  omega (arith, c.push-reserved.ensures.len, c.loop-placed.invariant.2),
+  one_pushed _ _ _ (vec_items c.loop-placed.plan) _ _ _ _ _ c.loop-placed.invariant.0 c.in-Some.ensures.word.0 c.in-Some-read.ensures (omega (arith, c.len.ensures, c.loop-placed.plan.ok.0)) c.push_reserved.ensures.items,
+  c.push_reserved.ensures.capacity ∙ c.loop-placed.invariant.1,
+  omega (arith, c.push_reserved.ensures.len, c.loop-placed.invariant.2),
 )
 
 pub loop-placed-preserved : goal.loop-placed-preserved

@@ -9,12 +9,12 @@ use Rattle.walk.proofs.evaluation.argument_value.Goals as goal
 
 pub given-requires : goal.given-requires
 given-requires g c =
-    let e = c.copied-argument.ensures ∙ item_nth _ _ _ c.get.ensures.lookup ∙ ap (λ l. slice_get l c.args.number) c.as-slice.ensures in
+    let e = c.copied-argument.ensures ∙ item_nth _ _ _ c.get.ensures.lookup ∙ ap (λ l. slice_get l c.args.number) c.as_slice.ensures in
     record { there = c.requires.there; few = named_nth 4 (listed c.args.equation.now.arguments) c.args.number _ e c.requires.few }
 
 pub returns : goal.returns
 returns g c = λ σ h.
-    let e = c.copied-argument.ensures ∙ item_nth _ _ _ c.get.ensures.lookup ∙ ap (λ l. slice_get l c.args.number) c.as-slice.ensures in
+    let e = c.copied-argument.ensures ∙ item_nth _ _ _ c.get.ensures.lookup ∙ ap (λ l. slice_get l c.args.number) c.as_slice.ensures in
     let M = meaning_of (g.A.Archive.leafs c.args.archive.now) (g.A.Archive.result c.args.archive.now) in
     let T = table σ c.args.places.now in
     let v = value_at (g.A.Archive.leafs c.args.archive.now 0) c.args.values.now in

@@ -10,14 +10,14 @@ use Rattle.walk.proofs.Looking.{equations_of, rule_found, rule_missing}
 use Rattle.walk.proofs.evaluation.equation_met.Goals as goal
 
 pub returns-in_err-node : goal.returns-in_err-node
-returns-in_err-node c = absurd (never_true (sym c.requires ∙ ap is_some (sym c.node-at.ensures ∙ c.in_err-node.was)))
+returns-in_err-node c = absurd (never_true (sym c.requires ∙ ap is_some (sym c.node_at.ensures ∙ c.in_err-node.was)))
 
 pub returns-in_err-group : goal.returns-in_err-group
 returns-in_err-group c =
     let g = grammar_of c.args.sheet.now in
     let o = c.args.met.occurrence in
     let a = c.args.met.attribute in
-    let e = equations_of g c.args.places.now c.args.met.rule_place c.in_ok-node.node (sym c.node-at.ensures ∙ c.in_ok-node.was) in
+    let e = equations_of g c.args.places.now c.args.met.rule_place c.in_ok-node.node (sym c.node_at.ensures ∙ c.in_ok-node.was) in
     let m = rule_missing g c.from.result c.rule.result c.rule.ensures.rule c.in_err-group.was in
     let none : equations_at g (table g c.args.places.now) c.args.met.rule_place ≡ [] = e ∙ ap (λ k. (rule g k).equations) (sym c.from.ensures) ∙ ap (λ r. r.equations) m in
     subst (λ r. MatchOption r (NoEquation o a (equations_at g (table g c.args.places.now) c.args.met.rule_place)) (λ x. equation o a (equations_at g (table g c.args.places.now) c.args.met.rule_place) ≡ equation_of x.now))
@@ -28,7 +28,7 @@ returns c =
     let g = grammar_of c.args.sheet.now in
     let o = c.args.met.occurrence in
     let a = c.args.met.attribute in
-    let e = equations_of g c.args.places.now c.args.met.rule_place c.in_ok-node.node (sym c.node-at.ensures ∙ c.in_ok-node.was) in
+    let e = equations_of g c.args.places.now c.args.met.rule_place c.in_ok-node.node (sym c.node_at.ensures ∙ c.in_ok-node.was) in
     let m = rule_found g c.from.result c.rule.result c.in_ok-group.group c.rule.ensures.rule c.in_ok-group.was in
-    subst (λ qs. MatchOption c.equation-for.result (NoEquation o a qs) (λ x. equation o a qs ≡ equation_of x.now))
-    (sym (e ∙ ap (λ k. (rule g k).equations) (sym c.from.ensures) ∙ ap (λ r. r.equations) m)) c.equation-for.ensures
+    subst (λ qs. MatchOption c.equation_for.result (NoEquation o a qs) (λ x. equation o a qs ≡ equation_of x.now))
+    (sym (e ∙ ap (λ k. (rule g k).equations) (sym c.from.ensures) ∙ ap (λ r. r.equations) m)) c.equation_for.ensures

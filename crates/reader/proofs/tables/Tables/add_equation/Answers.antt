@@ -9,8 +9,8 @@ use Rattle.reader.proofs.tables.Tables.add_equation.Goals as goal
 pub overflow-cast-function : goal.overflow-cast-function
 overflow-cast-function c = omega (arith, (set_room (state_of c.args.self.now) (set_of c.in_ok-set.set) c.in-None.ensures).small)
 
-pub push-reserved-requires : goal.push-reserved-requires
-push-reserved-requires c =
+pub push_reserved-requires : goal.push_reserved-requires
+push_reserved-requires c =
     omega (arith, (set_room (state_of c.args.self.now) (set_of c.in_ok-set.set) c.in-None.ensures).few, c.args.self.now.equation_room)
 
 pub invariant_of-self : goal.invariant_of-self
@@ -20,13 +20,13 @@ invariant_of-self c =
       (
         t.rule_room,
         (
-          omega (arith, c.push-reserved.ensures.capacity, t.equation_room),
+          omega (arith, c.push_reserved.ensures.capacity, t.equation_room),
           (
             t.plan_room,
             (
               t.turn,
               (
-                spans_more (vec_len t.equations) (vec_len c.push-reserved.new.self) (vec_len t.plan) (vec_len t.plan) (omega (arith, c.push-reserved.ensures.len)) (omega arith) (vec_items t.rules) t.opened t.spans,
+                spans_more (vec_len t.equations) (vec_len c.push_reserved.new.self) (vec_len t.plan) (vec_len t.plan) (omega (arith, c.push_reserved.ensures.len)) (omega arith) (vec_items t.rules) t.opened t.spans,
                 tt,
               ),
             ),
@@ -38,6 +38,6 @@ invariant_of-self c =
 pub returns-in-None : goal.returns-in-None
 returns-in-None c =
     let t = c.args.self.now in
-    let g = gained (vec_items t.equations) (vec_items c.push-reserved.new.self) _ (vec_items t.plan) (vec_items t.rules) t.opened (vec_len t.equations) (vec_len t.plan) t.equations.ok.0 t.plan.ok.0 c.push-reserved.ensures.items t.spans in
+    let g = gained (vec_items t.equations) (vec_items c.push_reserved.new.self) _ (vec_items t.plan) (vec_items t.rules) t.opened (vec_len t.equations) (vec_len t.plan) t.equations.ok.0 t.plan.ok.0 c.push_reserved.ensures.items t.spans in
     taken (state_of t) _ _ c.in_ok-set.ensures c.in-None.ensures
-    ∙ (λ i. next (record { symbols = (state_of t).symbols; rules = g.rules i; opened = g.opened i; sets = sym c.push-reserved.ensures.len i; steps = (state_of t).steps }))
+    ∙ (λ i. next (record { symbols = (state_of t).symbols; rules = g.rules i; opened = g.opened i; sets = sym c.push_reserved.ensures.len i; steps = (state_of t).steps }))

@@ -8,8 +8,8 @@ use Rattle.reader.specs.Views.{state_of}
 use Rattle.reader.proofs.Stepping.{taken, few_symbols}
 use Rattle.reader.proofs.tables.Tables.add_symbol.Goals as goal
 
-pub push-reserved-requires : goal.push-reserved-requires
-push-reserved-requires c =
+pub push_reserved-requires : goal.push_reserved-requires
+push_reserved-requires c =
     omega (arith, few_symbols (state_of c.args.self.now).symbols c.in_ok-row.row.visits (listed c.in_ok-row.row.attributes) (c.in-None.ensures ∙ ap (λ l. symbol_fault (map symbol_of l) c.in_ok-row.row.visits (listed c.in_ok-row.row.attributes)) c.deref.ensures.value), length-map (vec_items c.args.self.now.symbols) symbol_of, c.args.self.now.symbols.ok.0, c.args.self.now.symbol_room)
 
 pub returns-in-None : goal.returns-in-None
@@ -17,4 +17,4 @@ returns-in-None c =
     let st = state_of c.args.self.now in
     taken st _ _ c.in_ok-row.ensures (c.in-None.ensures ∙ ap (λ l. symbol_fault (map symbol_of l) c.in_ok-row.row.visits (listed c.in_ok-row.row.attributes)) c.deref.ensures.value)
     ∙ ap (λ ss. next (record { symbols = ss; rules = st.rules; opened = st.opened; sets = st.sets; steps = st.steps }))
-    (sym (ap (map symbol_of) c.push-reserved.ensures.items ∙ map_push symbol_of (vec_items c.args.self.now.symbols) c.in_ok-row.row))
+    (sym (ap (map symbol_of) c.push_reserved.ensures.items ∙ map_push symbol_of (vec_items c.args.self.now.symbols) c.in_ok-row.row))

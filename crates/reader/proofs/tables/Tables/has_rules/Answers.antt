@@ -4,4 +4,4 @@ use Rattle.reader.proofs.Tabled.{empty_len}
 use Rattle.reader.proofs.tables.Tables.has_rules.Goals as goal
 
 pub returns : goal.returns
-returns c = ap not (c.is-empty.ensures ∙ empty_len (rule_of (vec_items c.args.self.now.equations) (vec_items c.args.self.now.plan)) (vec_items c.args.self.now.rules) _ c.args.self.now.rules.ok.0)
+returns c = ap not (c.is_empty.ensures ∙ empty_len (rule_of (vec_items c.args.self.now.equations) (vec_items c.args.self.now.plan)) (vec_items c.args.self.now.rules) _ c.args.self.now.rules.ok.0)

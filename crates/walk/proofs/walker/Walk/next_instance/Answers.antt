@@ -14,7 +14,7 @@ advance-requires c = c.loop-self.invariant.0
 
 -- each turn is a move
 turn : (c : After-advance) → Moves (grammar_of c.args.sheet.now) c.args.places.now (stand_of c.loop-self.self) c.advance.result (stand_of c.advance.new.self)
-turn c = advanced _ _ _ _ _ c.loop-self.invariant.0 (sym c.is-done.ensures ∙ c.loop-self-test.true) c.advance.ensures.stand c.advance.ensures.met
+turn c = advanced _ _ _ _ _ c.loop-self.invariant.0 (sym c.is_done.ensures ∙ c.loop-self-test.true) c.advance.ensures.stand c.advance.ensures.met
 
 pub returns-in-Some : goal.returns-in-Some
 returns-in-Some c =
@@ -33,5 +33,5 @@ loop-self-preserved c =
 
 pub returns : goal.returns
 returns c =
-    let z = end_ahead (grammar_of c.args.sheet.now) c.args.places.now (stand_of c.loop-self.self) (sym c.is-done.ensures ∙ c.loop-self-test.false) in
+    let z = end_ahead (grammar_of c.args.sheet.now) c.args.places.now (stand_of c.loop-self.self) (sym c.is_done.ensures ∙ c.loop-self-test.false) in
     record { walking = c.loop-self.invariant.0; lists = c.loop-self.invariant.1 ∙ z; rests = z }

@@ -6,14 +6,14 @@ use Rattle.walk.proofs.walker.Walk.next_owed.Goals as goal
 pub loop-found-init : goal.loop-found-init
 loop-found-init c = (c.requires, ([], (λ x m. absurd m), refl))
 
-pub next-instance-requires : goal.next-instance-requires
-next-instance-requires c = c.loop-found.invariant.0
+pub next_instance-requires : goal.next_instance-requires
+next_instance-requires c = c.loop-found.invariant.0
 
-pub is-due-requires : goal.is-due-requires
-is-due-requires c = (meeting_names _ _ _ _ c.requires c.in-Some.ensures.meeting).1
+pub is_due-requires : goal.is_due-requires
+is_due-requires c = (meeting_names _ _ _ _ c.requires c.in-Some.ensures.meeting).1
 
-pub returns-then-is-due : goal.returns-then-is-due
-returns-then-is-due c =
+pub returns-then-is_due : goal.returns-then-is_due
+returns-then-is_due c =
     let r = c.in-Some.ensures in
     let i = c.loop-found.invariant.1 in
     record {
@@ -21,7 +21,7 @@ returns-then-is-due c =
       meeting = r.meeting;
       between = i.0;
       unowed = i.1;
-      due = sym c.is-due.ensures ∙ c.if-is-due.true;
+      due = sym c.is_due.ensures ∙ c.if-is_due.true;
       lists = i.2 ∙ ap (λ z. i.0 ++ z) r.lists;
     }
 
@@ -31,7 +31,7 @@ loop-found-smaller c = omega (arith, ap length c.in-Some.ensures.lists)
 pub loop-found-preserved : goal.loop-found-preserved
 loop-found-preserved c =
     let r = c.in-Some.ensures in
-    (r.walking, passes_unowed _ _ _ _ _ c.loop-found.invariant.1 r.lists (sym c.is-due.ensures ∙ c.if-is-due.false))
+    (r.walking, passes_unowed _ _ _ _ _ c.loop-found.invariant.1 r.lists (sym c.is_due.ensures ∙ c.if-is_due.false))
 
 pub returns : goal.returns
 returns c =
