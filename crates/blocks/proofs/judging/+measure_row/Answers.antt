@@ -21,7 +21,7 @@ returns-in_err-below t c =
     let bs = c.args.pieces.now in
     let l : 1 ≤ length c.args.symbols.now = search rules in
     let m : 1 ≤ length c.args.pieces.now = search rules in
-    subst (λ o. MatchOption o (NoRow g xs bs) (λ m. Row g xs c.args.depth bs m.0 m.1.now)) (sym c.from-residual-in_err-below.ensures)
+    subst (λ o. MatchOption o (NoRow g xs bs) (λ m. Row g xs c.args.depth bs m.0 m.1.now)) (sym c.from_residual-in_err-below.ensures)
     (no_row_below g xs bs _ _ _ _ _ _ _ (front xs 0 l) (front bs (record { rule = 0; datum = 0 }) m)
     c.in_ok-kind.ensures c.if-kind-symbol.false c.in_err-below.ensures)
 
@@ -32,7 +32,7 @@ returns-in_err-beside t c =
     let bs = c.args.pieces.now in
     let l : 1 ≤ length c.args.symbols.now = search rules in
     let m : 1 ≤ length c.args.pieces.now = search rules in
-    subst (λ o. MatchOption o (NoRow g xs bs) (λ m. Row g xs c.args.depth bs m.0 m.1.now)) (sym c.from-residual-in_err-beside.ensures)
+    subst (λ o. MatchOption o (NoRow g xs bs) (λ m. Row g xs c.args.depth bs m.0 m.1.now)) (sym c.from_residual-in_err-beside.ensures)
     (no_row_beside g xs bs _ _ _ _ _ _ _ _ _ _ (front xs 0 l) (front bs (record { rule = 0; datum = 0 }) m)
     c.in_ok-kind.ensures c.if-kind-symbol.false c.in_ok-below.ensures c.in_err-beside.ensures)
 

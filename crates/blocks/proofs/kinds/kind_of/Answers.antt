@@ -8,7 +8,7 @@ use Rattle.blocks.proofs.kinds.kind_of.Goals as goal
 pub returns-in_err-group : goal.returns-in_err-group
 returns-in_err-group c =
     let g = grammar_of c.args.sheet.now in
-    subst (λ o. MatchOption o (length g.rules ≤ c.args.rule) (λ k. Known g c.args.rule k.left k.right.now k.attributes)) (sym c.from-residual.ensures)
+    subst (λ o. MatchOption o (length g.rules ≤ c.args.rule) (λ k. Known g c.args.rule k.left k.right.now k.attributes)) (sym c.from_residual.ensures)
     (nth_none g.rules c.args.rule no_rule (sym c.in_err-group.ensures.rule))
 
 pub returns : goal.returns

@@ -6,8 +6,8 @@ use Rattle.places.specs.Totals.{owed_in, owed_total}
 use Rattle.places.proofs.Digits.{owed_most}
 use Rattle.places.proofs.totals.owed_total.Goals as goal
 
-pub overflow-add-owed : goal.overflow-add-owed
-overflow-add-owed c =
+pub overflow_add-owed : goal.overflow_add-owed
+overflow_add-owed c =
     let most = owed_most (marks_in (at c.args.places.now c.loop-place.place-index)) 16 in
     let is : c.owed_in-owed.result ≡ owed_in (at c.args.places.now c.loop-place.place-index) = c.owed_in-owed.ensures in
     omega (arith, c.loop-place.invariant.1)

@@ -21,7 +21,7 @@ returns-in_err-group c =
     let m = rule_missing g c.from.result c.rule.result c.rule.ensures.rule c.in_err-group.was in
     let none : equations_at g (table g c.args.places.now) c.args.met.rule_place ≡ [] = e ∙ ap (λ k. (rule g k).equations) (sym c.from.ensures) ∙ ap (λ r. r.equations) m in
     subst (λ r. MatchOption r (NoEquation o a (equations_at g (table g c.args.places.now) c.args.met.rule_place)) (λ x. equation o a (equations_at g (table g c.args.places.now) c.args.met.rule_place) ≡ equation_of x.now))
-    (sym c.from-residual-in_err-group.ensures) (subst (NoEquation o a) (sym none) (none_in_nothing o a))
+    (sym c.from_residual-in_err-group.ensures) (subst (NoEquation o a) (sym none) (none_in_nothing o a))
 
 pub returns : goal.returns
 returns c =

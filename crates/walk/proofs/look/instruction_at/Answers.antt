@@ -12,7 +12,7 @@ returns-in_err-group c =
     let n = c.in_ok-node.node in
     let e = plan_of g c.args.places.now c.args.place n (sym c.node_at.ensures ∙ c.in_ok-node.was) in
     let m = rule_missing g c.from.result c.rule.result c.rule.ensures.rule c.in_err-group.was in
-    c.from-residual-in_err-group.ensures ∙ sym (ap (λ l. slice_get l c.args.number) (e ∙ ap (λ k. (rule g k).plan) (sym c.from.ensures) ∙ ap (λ r. r.plan) m))
+    c.from_residual-in_err-group.ensures ∙ sym (ap (λ l. slice_get l c.args.number) (e ∙ ap (λ k. (rule g k).plan) (sym c.from.ensures) ∙ ap (λ r. r.plan) m))
 
 pub returns : goal.returns
 returns c =

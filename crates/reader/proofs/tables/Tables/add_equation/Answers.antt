@@ -6,8 +6,8 @@ use Rattle.reader.proofs.Spanned.{spans_more, gained}
 use Rattle.reader.proofs.Stepping.{taken, set_room}
 use Rattle.reader.proofs.tables.Tables.add_equation.Goals as goal
 
-pub overflow-cast-function : goal.overflow-cast-function
-overflow-cast-function c = omega (arith, (set_room (state_of c.args.self.now) (set_of c.in_ok-set.set) c.in-None.ensures).small)
+pub overflow_cast-function : goal.overflow_cast-function
+overflow_cast-function c = omega (arith, (set_room (state_of c.args.self.now) (set_of c.in_ok-set.set) c.in-None.ensures).small)
 
 pub push_reserved-requires : goal.push_reserved-requires
 push_reserved-requires c =
@@ -15,25 +15,14 @@ push_reserved-requires c =
 
 pub invariant_of-self : goal.invariant_of-self
 invariant_of-self c =
-    let t = c.args.self.now in (
-      t.symbol_room,
-      (
-        t.rule_room,
-        (
-          omega (arith, c.push_reserved.ensures.capacity, t.equation_room),
-          (
-            t.plan_room,
-            (
-              t.turn,
-              (
-                spans_more (vec_len t.equations) (vec_len c.push_reserved.new.self) (vec_len t.plan) (vec_len t.plan) (omega (arith, c.push_reserved.ensures.len)) (omega arith) (vec_items t.rules) t.opened t.spans,
-                tt,
-              ),
-            ),
-          ),
-        ),
-      ),
-    )
+    let t = c.args.self.now in record {
+      symbol_room = t.symbol_room;
+      rule_room = t.rule_room;
+      equation_room = omega (arith, c.push_reserved.ensures.capacity, t.equation_room);
+      plan_room = t.plan_room;
+      turn = t.turn;
+      spans = spans_more (vec_len t.equations) (vec_len c.push_reserved.new.self) (vec_len t.plan) (vec_len t.plan) (omega (arith, c.push_reserved.ensures.len)) (omega arith) (vec_items t.rules) t.opened t.spans;
+    }
 
 pub returns-in-None : goal.returns-in-None
 returns-in-None c =

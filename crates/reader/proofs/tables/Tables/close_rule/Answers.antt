@@ -13,17 +13,17 @@ use Rattle.reader.proofs.Closed.{taken_out, open_here, closed_spans, row_fits_le
 use Rattle.reader.proofs.Stepping.{taken, refused}
 use Rattle.reader.proofs.tables.Tables.close_rule.Goals as goal
 
-pub invariant_of-self-in-Break· : goal.invariant_of-self-in-Break·
-invariant_of-self-in-Break· c =
+pub invariant_of-self-in-Break-1 : goal.invariant_of-self-in-Break-1
+invariant_of-self-in-Break-1 c =
     let t = c.args.self.now in
     let g = taken_out t c.read_plan.new.plan c.take.new.self c.read_plan.ensures.grows c.take.ensures.after in
-    (t.symbol_room, (t.rule_room, (t.equation_room, (omega (arith, c.read_plan.ensures.capacity, t.plan_room), (g.turn, (g.spans, tt))))))
+    record { symbol_room = t.symbol_room; rule_room = t.rule_room; equation_room = t.equation_room; plan_room = omega (arith, c.read_plan.ensures.capacity, t.plan_room); turn = g.turn; spans = g.spans }
 
-pub invariant_of-self-in-Some·-open_fault : goal.invariant_of-self-in-Some·-open_fault
-invariant_of-self-in-Some·-open_fault c =
+pub invariant_of-self-in-Some-open_fault : goal.invariant_of-self-in-Some-open_fault
+invariant_of-self-in-Some-open_fault c =
     let t = c.args.self.now in
     let g = taken_out t c.read_plan.new.plan c.take.new.self c.read_plan.ensures.grows c.take.ensures.after in
-    (t.symbol_room, (t.rule_room, (t.equation_room, (omega (arith, c.read_plan.ensures.capacity, t.plan_room), (g.turn, (g.spans, tt))))))
+    record { symbol_room = t.symbol_room; rule_room = t.rule_room; equation_room = t.equation_room; plan_room = omega (arith, c.read_plan.ensures.capacity, t.plan_room); turn = g.turn; spans = g.spans }
 
 pub push_reserved-requires : goal.push_reserved-requires
 push_reserved-requires c =
@@ -33,26 +33,15 @@ pub invariant_of-self-in-None : goal.invariant_of-self-in-None
 invariant_of-self-in-None c =
     let t = c.args.self.now in
     let o = open_here t c.in-Some.open (sym c.in-Some.ensures.value) in
-    let row : RuleRow = record { left = c.in-Some.open.left; right = c.in-Some.open.right; equations = record { start = c.in-Some.open.start; end = c.len.result }; plan = record { start = c.len-before.result; end = c.len-in-None.result } } in (
-      t.symbol_room,
-      (
-        omega (arith, c.push_reserved.ensures.capacity, t.rule_room),
-        (
-          t.equation_room,
-          (
-            omega (arith, c.read_plan.ensures.capacity, t.plan_room),
-            (
-              ap (open_few (vec_len c.push_reserved.new.self)) c.take.ensures.after,
-              (
-                closed_spans t c.read_plan.new.plan (vec_items c.push_reserved.new.self) row c.take.new.self c.read_plan.ensures.grows c.take.ensures.after c.push_reserved.ensures.items
-                    (row_fits_lem (vec_len t.equations) (vec_len c.read_plan.new.plan) row (omega (arith, o.starts, c.len.ensures)) (omega (arith, c.len.ensures)) (omega (arith, c.len-before.ensures, c.len-in-None.ensures, c.read_plan.ensures.grows)) (omega (arith, c.len-in-None.ensures))),
-                tt,
-              ),
-            ),
-          ),
-        ),
-      ),
-    )
+    let row : RuleRow = record { left = c.in-Some.open.left; right = c.in-Some.open.right; equations = record { start = c.in-Some.open.start; end = c.len.result }; plan = record { start = c.len-before.result; end = c.len-in-None.result } } in record {
+      symbol_room = t.symbol_room;
+      rule_room = omega (arith, c.push_reserved.ensures.capacity, t.rule_room);
+      equation_room = t.equation_room;
+      plan_room = omega (arith, c.read_plan.ensures.capacity, t.plan_room);
+      turn = ap (open_few (vec_len c.push_reserved.new.self)) c.take.ensures.after;
+      spans = closed_spans t c.read_plan.new.plan (vec_items c.push_reserved.new.self) row c.take.new.self c.read_plan.ensures.grows c.take.ensures.after c.push_reserved.ensures.items
+          (row_fits_lem (vec_len t.equations) (vec_len c.read_plan.new.plan) row (omega (arith, o.starts, c.len.ensures)) (omega (arith, c.len.ensures)) (omega (arith, c.len-before.ensures, c.len-in-None.ensures, c.read_plan.ensures.grows)) (omega (arith, c.len-in-None.ensures)));
+    }
 
 pub returns-in-Some-open_fault : goal.returns-in-Some-open_fault
 returns-in-Some-open_fault c =

@@ -20,22 +20,11 @@ returns-in-None c =
 
 pub invariant_of-self : goal.invariant_of-self
 invariant_of-self c =
-    let t = c.args.self.now in (
-      t.symbol_room,
-      (
-        t.rule_room,
-        (
-          t.equation_room,
-          (
-            t.plan_room,
-            (
-              lt-ltb _ _ (omega (arith, few_rules (length (state_of t).symbols) (length (state_of t).rules) c.in_ok-row.row.left (listed c.in_ok-row.row.right) (c.in-None.ensures ∙ (λ i. rule_fault (c.symbol_count.ensures i) (c.rule_count.ensures i) c.in_ok-row.row.left (listed c.in_ok-row.row.right))), length-map (vec_items t.rules) (rule_of (vec_items t.equations) (vec_items t.plan)), t.rules.ok.0)),
-              (
-                and_from _ _ (and_parts (every (row_fits (vec_len t.equations) (vec_len t.plan)) (vec_items t.rules)) (open_fits (vec_len t.equations) t.opened) t.spans).0 (le-leb _ _ (omega (arith, c.len.ensures))),
-                tt,
-              ),
-            ),
-          ),
-        ),
-      ),
-    )
+    let t = c.args.self.now in record {
+      symbol_room = t.symbol_room;
+      rule_room = t.rule_room;
+      equation_room = t.equation_room;
+      plan_room = t.plan_room;
+      turn = lt-ltb _ _ (omega (arith, few_rules (length (state_of t).symbols) (length (state_of t).rules) c.in_ok-row.row.left (listed c.in_ok-row.row.right) (c.in-None.ensures ∙ (λ i. rule_fault (c.symbol_count.ensures i) (c.rule_count.ensures i) c.in_ok-row.row.left (listed c.in_ok-row.row.right))), length-map (vec_items t.rules) (rule_of (vec_items t.equations) (vec_items t.plan)), t.rules.ok.0));
+      spans = and_from _ _ (and_parts (every (row_fits (vec_len t.equations) (vec_len t.plan)) (vec_items t.rules)) (open_fits (vec_len t.equations) t.opened) t.spans).0 (le-leb _ _ (omega (arith, c.len.ensures)));
+    }

@@ -7,7 +7,7 @@ use Rattle.reader.proofs.tables.Tables.read_lines.Goals as goal
 
 pub returns-in_err-read_line : goal.returns-in_err-read_line
 returns-in_err-read_line c =
-    let p = err_from_is_err_and c.from-residual.result c.from-residual.ensures.1 in
+    let p = err_from_is_err_and c.from_residual.result c.from_residual.ensures.1 in
     let f = c.in_err-read_line.field-0.0 in
     rw (p.1, p.2)
     (refused_line _ _ _ _ _ (record { before = c.in-Some.line.now; after = c.in-Some.after.now }) f.refusal c.loop-line.invariant c.in-Some.ensures.0 c.in_err-read_line.ensures.0

@@ -9,8 +9,8 @@ use Rattle.sheet.proofs.kept.Sheet.rule.Goals as goal
 
 pub returns-in_err-row : goal.returns-in_err-row
 returns-in_err-row c = record {
-  rule = ap (option_map group_rule) c.from-residual.ensures ∙ row_rule c.args.self.now.tables c.deref.result.now c.args.number None c.deref.ensures.value c.in_err-row.ensures.lookup;
-  symbols = subst (λ o. IfSome o (λ g. (group_scope g).symbols ≡ (grammar_of c.args.self.now).symbols)) (sym c.from-residual.ensures) tt;
+  rule = ap (option_map group_rule) c.from_residual.ensures ∙ row_rule c.args.self.now.tables c.deref.result.now c.args.number None c.deref.ensures.value c.in_err-row.ensures.lookup;
+  symbols = subst (λ o. IfSome o (λ g. (group_scope g).symbols ≡ (grammar_of c.args.self.now).symbols)) (sym c.from_residual.ensures) tt;
 }
 
 pub part-equations-requires : goal.part-equations-requires

@@ -5,17 +5,17 @@ use Rattle.walk.proofs.Advancing.{next_small, VisitHere, visit_here, EvaluateHer
 use Rattle.walk.proofs.walker.Walk.advance.Goals as goal
 use Rattle.walk.proofs.walker.Walk.advance.Goals.{In-InPlan-Evaluate, In-InPlan-Visit, at·occurrence_place-requires, at·returns-in-InPlan-Evaluate, at·enter-requires, at·returns-in-InPlan-Visit}
 
-pub overflow-add-self : goal.overflow-add-self
-overflow-add-self c = omega (arith, next_small _ _ _ c.requires)
+pub overflow_add-self : goal.overflow_add-self
+overflow_add-self c = omega (arith, next_small _ _ _ c.requires)
 
-pub overflow-add-self-in-Entering-Return : goal.overflow-add-self-in-Entering-Return
-overflow-add-self-in-Entering-Return c = omega (arith, next_small _ _ _ c.requires)
+pub overflow_add-self-in-Entering-Return : goal.overflow_add-self-in-Entering-Return
+overflow_add-self-in-Entering-Return c = omega (arith, next_small _ _ _ c.requires)
 
-pub overflow-add-self-in-Entering-default : goal.overflow-add-self-in-Entering-default
-overflow-add-self-in-Entering-default c = omega (arith, next_small _ _ _ c.requires)
+pub overflow_add-self-in-Entering-default : goal.overflow_add-self-in-Entering-default
+overflow_add-self-in-Entering-default c = omega (arith, next_small _ _ _ c.requires)
 
-pub overflow-add-self-in-Returning-Visit : goal.overflow-add-self-in-Returning-Visit
-overflow-add-self-in-Returning-Visit c = omega (arith, next_small _ _ _ c.requires)
+pub overflow_add-self-in-Returning-Visit : goal.overflow_add-self-in-Returning-Visit
+overflow_add-self-in-Returning-Visit c = omega (arith, next_small _ _ _ c.requires)
 
 -- what the instruction names
 evaluates : (c : In-InPlan-Evaluate) → EvaluateHere (grammar_of c.args.sheet.now) c.args.places.now (stand_of c.args.self.now) c.in-InPlan-Evaluate.occurrence c.in-InPlan-Evaluate.attribute
