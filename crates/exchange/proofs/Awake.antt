@@ -3,7 +3,7 @@ use Rattle.std.proofs.Common.{◌≡◌, ℕ, zero, suc, ◌-◌, ◌<◌, ◌�
 use Rattle.std.proofs.lemmas.Bool.Decides.{nat_tests}
 use Rattle.std.proofs.lemmas.List.{get_or-map}
 use Rattle.std.specs.Option.{option_map}
-use Rattle.std.specs.List.{AllByRecursion as All, slice_get}
+use Rattle.std.specs.List.{AllByRecursion, slice_get}
 use Rattle.grammar.specs.Model.{Equation, Rule, Grammar}
 use Rattle.grammar.specs.Scopes.{flows, same_flow}
 use Rattle.grammar.specs.Tests.{some}
@@ -46,7 +46,7 @@ some_in f [] x i h = absurd i
 some_in f (y ∷ ys) x (inl e) h = ap (λ b. b || some f ys) (ap f (sym e) ∙ h)
 some_in f (y ∷ ys) x (inr i) h = let k = some_in f ys x i h in grind (arith, nat_tests)
 
-pub all_in : {X : Type 0} (P : X → Type 0) (xs : List X) (x : X) → In x xs → All P xs → P x
+pub all_in : {X : Type 0} (P : X → Type 0) (xs : List X) (x : X) → In x xs → AllByRecursion P xs → P x
 all_in P [] x i a = absurd i
 all_in P (y ∷ ys) x (inl e) a = subst P (sym e) a.0
 all_in P (y ∷ ys) x (inr i) a = all_in P ys x i a.1

@@ -1,7 +1,7 @@
 -- What holds at each place of a list, and at each place before one.
 use Rattle.std.proofs.Common.{◌≡◌, ℕ, zero, suc, ◌+◌, ◌<◌, ◌≤◌, Bool, true, List, [], ◌∷◌, map, length, get_or, take, Some, None, Decides, Option, sym, refl, ap, ◌∙◌, subst, ⊎_elim, arith, length-take}
 use Rattle.std.specs.Option.{option_map}
-use Rattle.std.specs.List.{AllByRecursion as All, slice_get}
+use Rattle.std.specs.List.{AllByRecursion, slice_get}
 use Rattle.std.proofs.lemmas.Option.{slice_get-get_or}
 use Rattle.std.proofs.lemmas.Bool.{cases_lt}
 use Rattle.std.proofs.lemmas.Bool.Decides.{Decides-below_and, Decides-like}
@@ -63,12 +63,12 @@ decides_throughout {X} t P xs none each =
     by i (Some y) = (λ r x e. let same : y ≡ x = cc in subst (P i) same ((each i y).0 r), λ h. (each i y).1 (h y refl))
 
 -- what holds of each element holds at each place
-pub all_throughout : {X : Type 0} (P : X → Type 0) (xs : List X) → All P xs → Throughout (λ _ x. P x) xs
+pub all_throughout : {X : Type 0} (P : X → Type 0) (xs : List X) → AllByRecursion P xs → Throughout (λ _ x. P x) xs
 all_throughout P [] h m x e = never (cc)
 all_throughout P (y ∷ ys) h zero x e = let same : y ≡ x = cc in subst P same h.0
 all_throughout P (y ∷ ys) h (suc m) x e = all_throughout P ys h.1 m x e
 
-pub throughout_all : {X : Type 0} (P : X → Type 0) (xs : List X) → Throughout (λ _ x. P x) xs → All P xs
+pub throughout_all : {X : Type 0} (P : X → Type 0) (xs : List X) → Throughout (λ _ x. P x) xs → AllByRecursion P xs
 throughout_all P [] h = tt
 throughout_all P (y ∷ ys) h = (h 0 y refl, throughout_all P ys (λ m x e. h (suc m) x e))
 

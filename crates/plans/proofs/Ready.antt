@@ -1,6 +1,6 @@
 -- What each instruction of a plan asks of those before it.
 use Rattle.std.proofs.Common.{◌≡◌, ℕ, zero, suc, ◌<◌, ◌≤◌, Bool, true, false, not, ◌||◌, eqb, List, map, length, get_or, Some, None, Decides, Option, sym, refl, ap, ◌∙◌, subst}
-use Rattle.std.specs.List.{AllByRecursion as All, slice_get}
+use Rattle.std.specs.List.{AllByRecursion, slice_get}
 use Rattle.std.proofs.lemmas.Bool.Decides.{Decides-eqb, Decides-and, Decides-like, Decides-below_and, same_from_decides, not_from_Decides, Decides-at}
 use Rattle.std.proofs.ByRecursion.{Decides-by_and}
 use Rattle.grammar.specs.Model.{Equation}
@@ -74,7 +74,7 @@ known_decides σ plan i (Of k b) = by (attribute_at σ k b)
 
 -- an evaluation of o.a asks this of each equation
 abbrev pub Follows : Scope → List Instruction → ℕ → ℕ → ℕ → Equation → Type 0
-Follows σ plan i o a e = (e.occurrence ≡ o) × (e.attribute ≡ a) → All (Known σ plan i) e.arguments
+Follows σ plan i o a e = (e.occurrence ≡ o) × (e.attribute ≡ a) → AllByRecursion (Known σ plan i) e.arguments
 
 -- an evaluation asks that the arguments of its equations are known
 abbrev pub EvaluationReady : Scope → List Equation → List Instruction → ℕ → Instruction → Type 0
@@ -89,10 +89,10 @@ evaluation_decides σ equations plan i (Evaluate o a) = Decides-like _ there her
         (Decides-and (eqb e.occurrence o) (eqb e.attribute a) (Decides-eqb e.occurrence o) (Decides-eqb e.attribute a))
         (Decides-by_and (known σ plan i) (Known σ plan i) (every (known σ plan i)) (known_decides σ plan i) refl (λ _ _. refl) e.arguments)
 
-    there : All (Follows σ plan i o a) equations → EvaluationReady σ equations plan i (Evaluate o a)
+    there : AllByRecursion (Follows σ plan i o a) equations → EvaluationReady σ equations plan i (Evaluate o a)
     there h p b is q e at to = all_throughout (Follows σ plan i o a) equations h q e at (let u = to.0 in let v = to.1 in (cc, cc))
 
-    here : EvaluationReady σ equations plan i (Evaluate o a) → All (Follows σ plan i o a) equations
+    here : EvaluationReady σ equations plan i (Evaluate o a) → AllByRecursion (Follows σ plan i o a) equations
     here h = throughout_all (Follows σ plan i o a) equations (h o a refl)
 evaluation_decides σ equations plan i (Visit k j) = (λ _ o a e. never (cc), λ _. refl)
 evaluation_decides σ equations plan i (Return j) = (λ _ o a e. never (cc), λ _. refl)

@@ -1,6 +1,6 @@
 -- The rules of a plan, as statements about what stands in it and what stands before what.
 use Rattle.std.specs.Prelude.{◌≡◌, ℕ, zero, suc, ◌<◌, ◌≤◌, Bool, true, false, List, [], ◌∷◌, ◌++◌, length, take, Some, None, count_by, Option}
-use Rattle.std.specs.List.{AllByRecursion as All, slice_get}
+use Rattle.std.specs.List.{AllByRecursion, slice_get}
 use Rattle.grammar.specs.Model.{Equation}
 use Rattle.grammar.specs.Refusals.{rule_number}
 use Rattle.grammar.specs.Scopes.{Scope, visits_at, attribute_at, Defined}
@@ -85,7 +85,7 @@ Known σ plan i (Of k b) = (x : Attribute) → attribute_at σ k b ≡ Some x �
 abbrev pub ArgumentsStandFirst : Scope → List Equation → List Instruction → Type 0
 ArgumentsStandFirst σ equations plan =
     (i o a q : ℕ) (e : Equation) → Stands plan i (Evaluate o a) → slice_get equations q ≡ Some e → e.occurrence ≡ o → e.attribute ≡ a →
-    All (Known σ plan i) e.arguments
+    AllByRecursion (Known σ plan i) e.arguments
 
 -- what each rule says
 abbrev pub Holds : PlanRule → Scope → List Equation → List Instruction → Type 0

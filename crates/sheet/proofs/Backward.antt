@@ -1,6 +1,6 @@
 -- The writing of a grammar that meets every rule is judged a sheet.
 use Rattle.std.proofs.Common.{◌≡◌, ℕ, ◌+◌, ◌<◌, ◌≤◌, true, not, leb, List, [], ◌∷◌, ◌++◌, map, length, Some, None, sym, refl, ap, ◌∙◌, subst, append_assoc, arith}
-use Rattle.std.specs.List.{flat_map, AllByRecursion as All, slice_get}
+use Rattle.std.specs.List.{flat_map, AllByRecursion, slice_get}
 use Rattle.std.proofs.lemmas.List.{append-nil, length-append, length_push}
 use Rattle.std.proofs.lemmas.List.Sums.{sum_by-append, sum_by_push}
 use Rattle.std.proofs.lemmas.Bool.{and_from, le-leb}
@@ -39,7 +39,7 @@ module _ (all : List Symbol) (few : length all ≤ 32) (start : (s : Symbol) →
   begins [] s rest e = start s (ap (λ xs. slice_get xs 0) e)
   begins (x ∷ before) s rest e = tt
 
-  symbols_run : (rest before : List Symbol) → all ≡ before ++ rest → All SoundSymbol rest → Runs (state before [] None 0 0) (map symbol_line_of rest) (state all [] None 0 0)
+  symbols_run : (rest before : List Symbol) → all ≡ before ++ rest → AllByRecursion SoundSymbol rest → Runs (state before [] None 0 0) (map symbol_line_of rest) (state all [] None 0 0)
   symbols_run [] before e h = subst (λ x. Runs (state before [] None 0 0) [] (state x [] None 0 0)) (sym (e ∙ append-nil before)) done
   symbols_run (s ∷ rest) before e h =
       let long : length all ≡ length before + length (s ∷ rest) = ap length e ∙ length-append before (s ∷ rest) in
@@ -58,8 +58,8 @@ abbrev opened : ℕ → List ℕ → List Equation → Open
 opened l rs es = record { left = l; right = rs; equations = es }
 
 -- the open rule has the equations before, and gets the rest; m sets are there at the end
-module _ (ss : List Symbol) (sound : All SoundSymbol ss) (rules : List Rule) (l : ℕ) (rs : List ℕ) (few : length rs ≤ 4) (all : List Equation) (apart : Apart all) (k m : ℕ) (room : m ≤ 512) where
-  sets_run : (rest before : List Equation) (n : ℕ) → all ≡ before ++ rest → n + length rest ≡ m → All (SoundEquation (scope_here ss (opened l rs all))) rest → Runs (state ss rules (Some (opened l rs before)) n k) (map set_line rest) (state ss rules (Some (opened l rs all)) m k)
+module _ (ss : List Symbol) (sound : AllByRecursion SoundSymbol ss) (rules : List Rule) (l : ℕ) (rs : List ℕ) (few : length rs ≤ 4) (all : List Equation) (apart : Apart all) (k m : ℕ) (room : m ≤ 512) where
+  sets_run : (rest before : List Equation) (n : ℕ) → all ≡ before ++ rest → n + length rest ≡ m → AllByRecursion (SoundEquation (scope_here ss (opened l rs all))) rest → Runs (state ss rules (Some (opened l rs before)) n k) (map set_line rest) (state ss rules (Some (opened l rs all)) m k)
   sets_run [] before n e c h =
       let z : n ≡ m = omega arith in
       subst (λ es. Runs (state ss rules (Some (opened l rs before)) n k) [] (state ss rules (Some (opened l rs es)) m k)) (sym (e ∙ append-nil before))
@@ -97,7 +97,7 @@ not_empty : {X : Type 0} (xs : List X) → 1 ≤ length xs → not (is_empty xs)
 not_empty [] h = absurd (omega arith)
 not_empty (x ∷ xs) h = refl
 
-module _ (tells : TestsTell) (ss : List Symbol) (few : length ss ≤ 32) (some : 1 ≤ length ss) (sound : All SoundSymbol ss) where
+module _ (tells : TestsTell) (ss : List Symbol) (few : length ss ≤ 32) (some : 1 ≤ length ss) (sound : AllByRecursion SoundSymbol ss) where
   -- the lines of one rule, of which m sets and j instructions are there at the end
   group_run : (rules : List Rule) (r : Rule) (n k m j : ℕ) → SoundRule ss r → length rules < 64 → n + length r.equations ≡ m → m ≤ 512 → k + length r.plan ≡ j → j ≤ 1024 → Runs (state ss rules None n k) (group_of r) (state ss (rules ++ r ∷ []) None m j)
   group_run rules r n k m j h room cm lm cj lj =
@@ -112,7 +112,7 @@ module _ (tells : TestsTell) (ss : List Symbol) (few : length ss ≤ 32) (some :
       five : length (r.left ∷ r.right) ≤ 5
       five = let z = h.few_right in omega arith
 
-  rules_run : (all : List Rule) → length all ≤ 64 → sets_in all ≤ 512 → instructions_in all ≤ 1024 → (rest before : List Rule) → all ≡ before ++ rest → All (SoundRule ss) rest → Runs (state ss before None (sets_in before) (instructions_in before)) (flat_map group_of rest) (state ss all None (sets_in all) (instructions_in all))
+  rules_run : (all : List Rule) → length all ≤ 64 → sets_in all ≤ 512 → instructions_in all ≤ 1024 → (rest before : List Rule) → all ≡ before ++ rest → AllByRecursion (SoundRule ss) rest → Runs (state ss before None (sets_in before) (instructions_in before)) (flat_map group_of rest) (state ss all None (sets_in all) (instructions_in all))
   rules_run all long sets steps [] before e h = subst (λ x. Runs (state ss before None (sets_in before) (instructions_in before)) [] (state ss x None (sets_in x) (instructions_in x))) (sym (e ∙ append-nil before)) done
   rules_run all long sets steps (r ∷ rest) before e h =
       let all-long : length all ≡ length before + length (r ∷ rest) = ap length e ∙ length-append before (r ∷ rest) in

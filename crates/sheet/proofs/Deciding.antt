@@ -1,6 +1,6 @@
 -- What the tests of a line tell, each way.
 use Rattle.std.proofs.Common.{◌≡◌, ℕ, zero, suc, ◌<◌, ◌≤◌, Bool, true, false, not, ◌||◌, eqb, leb, List, [], ◌∷◌, length, is_some as option_is_some, Some, None, Decides, Option, sym, refl, ap, ◌∙◌, subst, arith}
-use Rattle.std.specs.List.{AllByRecursion as All, slice_get}
+use Rattle.std.specs.List.{AllByRecursion, slice_get}
 use Rattle.std.proofs.lemmas.Bool.{and_parts, and_from, or_left, or_right, leb-true, le-leb, eqb-true, eq-eqb}
 use Rattle.std.proofs.lemmas.Bool.Decides.{Decides-like, Decides-below_and}
 use Rattle.std.proofs.ByRecursion.{Decides-by_and}
@@ -20,7 +20,7 @@ use Rattle.sheet.specs.Meaning.{Taken, There}
 use Rattle.sheet.proofs.Places.{nth_below}
 
 -- tests over lists
-pub decides_every : {X : Type 0} (p : X → Bool) (P : X → Type 0) → ((x : X) → Decides (p x) (P x)) → (xs : List X) → Decides (every p xs) (All P xs)
+pub decides_every : {X : Type 0} (p : X → Bool) (P : X → Type 0) → ((x : X) → Decides (p x) (P x)) → (xs : List X) → Decides (every p xs) (AllByRecursion P xs)
 decides_every p P each xs = Decides-by_and p P (every p) each refl (λ _ _. refl) xs
 
 some_found : {X : Type 0} (p : X → Bool) (xs : List X) → some p xs ≡ true → (k : ℕ) × (x : X) × (slice_get xs k ≡ Some x) × (p x ≡ true)
@@ -39,7 +39,7 @@ some_there p (y ∷ xs) (suc k) x e h = or_right (p y) (some p xs) (some_there p
 pub decides_leb : (a b : ℕ) → Decides (leb a b) (a ≤ b)
 decides_leb a b = (leb-true a b, le-leb a b)
 
-pub every_from : {X : Type 0} (p : X → Bool) (P : X → Type 0) → ((x : X) → P x → p x ≡ true) → (xs : List X) → All P xs → every p xs ≡ true
+pub every_from : {X : Type 0} (p : X → Bool) (P : X → Type 0) → ((x : X) → P x → p x ≡ true) → (xs : List X) → AllByRecursion P xs → every p xs ≡ true
 every_from p P f [] h = refl
 every_from p P f (x ∷ xs) h = and_from (p x) (every p xs) (f x h.0) (every_from p P f xs h.1)
 
@@ -83,17 +83,17 @@ there_is σ (Evaluate o a) h = ap option_is_some h.1
 there_is σ (Visit k j) h = and_from (leb 1 j) (leb j (visits_at σ k)) (le-leb 1 j h.1) (le-leb j (visits_at σ k) h.2)
 there_is σ (Return j) h = and_from (leb 1 j) (leb j (visits_at σ 0)) (le-leb 1 j h.0) (le-leb j (visits_at σ 0) h.1)
 
-pub all_there : (σ : Scope) (is : List Instruction) → every right_visit is ≡ true → every (instruction_there σ) is ≡ true → All (There σ) is
+pub all_there : (σ : Scope) (is : List Instruction) → every right_visit is ≡ true → every (instruction_there σ) is ≡ true → AllByRecursion (There σ) is
 all_there σ [] r h = tt
 all_there σ (x ∷ is) r h =
     let p = and_parts (right_visit x) (every right_visit is) r in
     let q = and_parts (instruction_there σ x) (every (instruction_there σ) is) h in
     (there_from σ x p.0 q.0, all_there σ is p.1 q.1)
 
-pub all_right : (σ : Scope) (is : List Instruction) → All (There σ) is → every right_visit is ≡ true
+pub all_right : (σ : Scope) (is : List Instruction) → AllByRecursion (There σ) is → every right_visit is ≡ true
 all_right σ is h = every_from right_visit (There σ) (there_right σ) is h
 
-pub all_is : (σ : Scope) (is : List Instruction) → All (There σ) is → every (instruction_there σ) is ≡ true
+pub all_is : (σ : Scope) (is : List Instruction) → AllByRecursion (There σ) is → every (instruction_there σ) is ≡ true
 all_is σ is h = every_from (instruction_there σ) (There σ) (there_is σ) is h
 
 -- an equation for attribute a of occurrence o

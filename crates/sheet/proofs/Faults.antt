@@ -1,7 +1,7 @@
 -- A line has no fault just where what it says may come next.
 use Rattle.std.proofs.Common.{◌≡◌, ℕ, ◌+◌, ◌<◌, ◌≤◌, Bool, true, false, not, ◌&&◌, eqb, ltb, leb, List, [], ◌∷◌, length, is_some, Some, None, Decides, Option, refl, ap, ◌∙◌, arith}
 use Rattle.std.specs.Option.{option_map}
-use Rattle.std.specs.List.{AllByRecursion as All}
+use Rattle.std.specs.List.{AllByRecursion}
 use Rattle.std.proofs.lemmas.Bool.Decides.{Decides-and, Decides-not, Decides-eqb, Decides-ltb, Decides-like}
 use Rattle.grammar.specs.Tests.{every}
 use Rattle.grammar.specs.Model.{Symbol, Equation}
@@ -53,14 +53,14 @@ pub record NextSymbol (ss : List Symbol) (s : Symbol) : Type 0 where
   pub room : length ss < 32
   pub some_visit : 1 ≤ s.visits
   pub few_visits : s.visits ≤ 4
-  pub visits_there : All (λ x. (1 ≤ x.visit) × (x.visit ≤ s.visits)) s.attributes
+  pub visits_there : AllByRecursion (λ x. (1 ≤ x.visit) × (x.visit ≤ s.visits)) s.attributes
   pub begins : Starts ss s
 
 module _ (ss : List Symbol) (s : Symbol) where
   some_room : Decides (between1 4 s.visits && ltb (length ss) 32) (((1 ≤ s.visits) × (s.visits ≤ 4)) × (length ss < 32))
   some_room = Decides-and (between1 4 s.visits) (ltb (length ss) 32) (decides_between 4 s.visits) (Decides-ltb (length ss) 32)
 
-  all_visits : Decides (every (λ x. between1 s.visits x.visit) s.attributes) (All (λ x. (1 ≤ x.visit) × (x.visit ≤ s.visits)) s.attributes)
+  all_visits : Decides (every (λ x. between1 s.visits x.visit) s.attributes) (AllByRecursion (λ x. (1 ≤ x.visit) × (x.visit ≤ s.visits)) s.attributes)
   all_visits = decides_every (λ x. between1 s.visits x.visit) (λ x. (1 ≤ x.visit) × (x.visit ≤ s.visits)) (λ x. decides_between s.visits x.visit) s.attributes
 
   pub symbol_next : symbol_fault ss s.visits s.attributes ≡ None → NextSymbol ss s
@@ -80,10 +80,10 @@ module _ (ss : List Symbol) (s : Symbol) where
 pub record NextRule (n m l : ℕ) (rs : List ℕ) : Type 0 where
   pub room : m < 64
   pub left_there : l < n
-  pub right_there : All (λ x. x < n) rs
+  pub right_there : AllByRecursion (λ x. x < n) rs
 
 module _ (n m l : ℕ) (rs : List ℕ) where
-  all_below : Decides (every (λ x. ltb x n) (l ∷ rs)) (All (λ x. x < n) (l ∷ rs))
+  all_below : Decides (every (λ x. ltb x n) (l ∷ rs)) (AllByRecursion (λ x. x < n) (l ∷ rs))
   all_below = decides_every (λ x. ltb x n) (λ x. x < n) (λ x. Decides-ltb x n) (l ∷ rs)
 
   pub rule_next : rule_fault n m l rs ≡ None → NextRule n m l rs
@@ -102,7 +102,7 @@ pub record NextEquation (σ : Scope) (es : List Equation) (n : ℕ) (e : Equatio
   pub room : n < 512
   pub target : defines σ e.occurrence e.attribute ≡ true
   pub fresh : TargetAt es e.occurrence e.attribute → ⊥
-  pub arguments_taken : All (Taken σ) e.arguments
+  pub arguments_taken : AllByRecursion (Taken σ) e.arguments
 
 module _ (σ : Scope) (es : List Equation) (n : ℕ) (e : Equation) where
   set_room : Decides (leb e.function 255 && ltb n 512) ((e.function ≤ 255) × (n < 512))
@@ -111,7 +111,7 @@ module _ (σ : Scope) (es : List Equation) (n : ℕ) (e : Equation) where
   set_target : Decides (defines σ e.occurrence e.attribute && not (has_target es e.occurrence e.attribute)) ((defines σ e.occurrence e.attribute ≡ true) × (TargetAt es e.occurrence e.attribute → ⊥))
   set_target = Decides-and _ _ ((λ h. h), (λ h. h)) (Decides-not _ (decides_target es e.occurrence e.attribute))
 
-  set_taken : Decides (every (argument_taken σ) e.arguments) (All (Taken σ) e.arguments)
+  set_taken : Decides (every (argument_taken σ) e.arguments) (AllByRecursion (Taken σ) e.arguments)
   set_taken = decides_every (argument_taken σ) (Taken σ) (decides_taken σ) e.arguments
 
   set_there : Decides (is_some (attribute_at σ e.occurrence e.attribute) && every (argument_there σ) e.arguments) ((is_some (attribute_at σ e.occurrence e.attribute) ≡ true) × (every (argument_there σ) e.arguments ≡ true))
@@ -137,7 +137,7 @@ module _ (σ : Scope) (es : List Equation) (n : ℕ) (e : Equation) where
 -- the plan is may come behind the equations es of its rule, and n instructions in all rules so far
 pub record NextPlan (σ : Scope) (es : List Equation) (n : ℕ) (is : List Instruction) : Type 0 where
   pub room : n + length is ≤ 1024
-  pub instructions_there : All (There σ) is
+  pub instructions_there : AllByRecursion (There σ) is
   pub all_defined : Complete σ es
   pub planned : Planned σ es is
 

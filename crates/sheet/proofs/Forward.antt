@@ -1,6 +1,6 @@
 -- A text that is judged a sheet is the writing of a grammar that meets every rule.
 use Rattle.std.proofs.Common.{◌≡◌, ℕ, ◌≤◌, Bool, true, false, not, ◌&&◌, leb, List, [], ◌∷◌, ◌++◌, length, is_some, Some, None, Option, sym, refl, ap, ◌∙◌, subst, append_assoc, arith}
-use Rattle.std.specs.List.{flat_map, AllByRecursion as All}
+use Rattle.std.specs.List.{flat_map, AllByRecursion}
 use Rattle.std.proofs.lemmas.List.{append-nil}
 use Rattle.std.proofs.lemmas.Bool.{and_parts, leb-true}
 use Rattle.grammar.specs.Model.{Symbol, Rule, Grammar}
@@ -45,7 +45,7 @@ whole_is st h = by st.rules st.opened h
     by (r ∷ rules) (Some o) k = absurd (grind arith)
 
 -- where a rule is there, so is its left symbol
-some_symbol : (ss : List Symbol) (rules : List Rule) → 1 ≤ length rules → All (SoundRule ss) rules → 1 ≤ length ss
+some_symbol : (ss : List Symbol) (rules : List Rule) → 1 ≤ length rules → AllByRecursion (SoundRule ss) rules → 1 ≤ length ss
 some_symbol ss [] h k = absurd (omega arith)
 some_symbol ss (r ∷ rules) h k = let l = k.0.left_there in omega arith
 

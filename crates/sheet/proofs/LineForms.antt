@@ -1,6 +1,6 @@
 -- Each kind of line: it is taken as l just where it is the writing of l.
 use Rattle.std.proofs.Common.{◌≡◌, ℕ, ◌<◌, ◌≤◌, Bool, true, false, cond, leb, List, [], ◌∷◌, ◌++◌, map, length, Some, None, Ok, Err, codes, decimal, Option, Result, sym, refl, ap, ◌∙◌, subst, arith}
-use Rattle.std.specs.List.{AllByRecursion as All}
+use Rattle.std.specs.List.{AllByRecursion}
 use Rattle.std.specs.Str.{bytes_eq}
 use Rattle.std.proofs.lemmas.List.{length-map}
 use Rattle.std.proofs.lemmas.Bool.{cond-true, leb-true, le-leb}
@@ -61,7 +61,7 @@ at_most_comes n xs h = cond-true (leb (length xs) n) _ _ (le-leb (length xs) n h
 
 -- a number, and then at most n words of one kind
 module _ {X Z : Type 0} (f : Token → Option X) (w : X → List ℕ) (Small : X → Type 0) (s : Spells f w Small) (n : ℕ) (mk : ℕ → List X → Z) where
-  counted_back : (v : List ℕ) (ws : List (List ℕ)) (z : Z) → together mk (number_of (lex v)) (at_most n (all_of f (map lex ws))) ≡ Ok z → (x : ℕ) × (xs : List X) × (mk x xs ≡ z) × (v ∷ ws ≡ decimal x ∷ map w xs) × ((x < 1000) × (length xs ≤ n) × All Small xs)
+  counted_back : (v : List ℕ) (ws : List (List ℕ)) (z : Z) → together mk (number_of (lex v)) (at_most n (all_of f (map lex ws))) ≡ Ok z → (x : ℕ) × (xs : List X) × (mk x xs ≡ z) × (v ∷ ws ≡ decimal x ∷ map w xs) × ((x < 1000) × (length xs ≤ n) × AllByRecursion Small xs)
   counted_back v ws z e =
       let t = together_back mk (number_of (lex v)) (at_most n (all_of f (map lex ws))) z e in
       let a = at_most_back n (all_of f (map lex ws)) t.1 t.3 in
@@ -69,7 +69,7 @@ module _ {X Z : Type 0} (f : Token → Option X) (w : X → List ℕ) (Small : X
       let q = words_back f w Small s ws t.1 a.0 in
       (t.0, t.1, t.4, (λ i. p.0 i ∷ q.0 i), (p.1, a.1, q.1))
 
-  counted_comes : (x : ℕ) (xs : List X) → x < 1000 → length xs ≤ n → All Small xs → together mk (number_of (lex (decimal x))) (at_most n (all_of f (map lex (map w xs)))) ≡ Ok (mk x xs)
+  counted_comes : (x : ℕ) (xs : List X) → x < 1000 → length xs ≤ n → AllByRecursion Small xs → together mk (number_of (lex (decimal x))) (at_most n (all_of f (map lex (map w xs)))) ≡ Ok (mk x xs)
   counted_comes x xs h l a = (λ i. together mk (numbers.come x h i) (at_most n (words_come f w Small s xs a i))) ∙ ap (together mk (Some x)) (at_most_comes n xs l)
 
 -- the words ws behind the name of k are the writing of l
@@ -90,11 +90,11 @@ rule_back (v ∷ ws) l e =
     let c = counted_back number_of decimal (λ n. n < 1000) numbers 4 rule_line v ws l e in
     subst (OfKind OfRule (v ∷ ws)) c.2 (record { written = ap (λ vs. codes "rule=" ++ spaced vs) c.3; key = refl; small = c.4 })
 
-function_back : (ws : List (List ℕ)) (z : ℕ × List Argument) → function_in (map lex ws) ≡ Ok z → (ws ≡ decimal z.0 ∷ map write_argument z.1) × ((z.0 < 1000) × (length z.1 ≤ 3) × All SmallArgument z.1)
+function_back : (ws : List (List ℕ)) (z : ℕ × List Argument) → function_in (map lex ws) ≡ Ok z → (ws ≡ decimal z.0 ∷ map write_argument z.1) × ((z.0 < 1000) × (length z.1 ≤ 3) × AllByRecursion SmallArgument z.1)
 function_back [] z e = absurd (grind arith)
 function_back (v ∷ ws) z e =
     let c = counted_back argument_word write_argument SmallArgument arguments 3 (λ n xs. (n, xs)) v ws z e in
-    subst (λ (y : ℕ × List Argument). (v ∷ ws ≡ decimal y.0 ∷ map write_argument y.1) × ((y.0 < 1000) × (length y.1 ≤ 3) × All SmallArgument y.1)) c.2 (c.3, c.4)
+    subst (λ (y : ℕ × List Argument). (v ∷ ws ≡ decimal y.0 ∷ map write_argument y.1) × ((y.0 < 1000) × (length y.1 ≤ 3) × AllByRecursion SmallArgument y.1)) c.2 (c.3, c.4)
 
 set_back : (ws : List (List ℕ)) (l : Line) → set_in (map lex ws) ≡ Ok l → OfKind OfSet ws l
 set_back [] l e = absurd (grind arith)
@@ -152,7 +152,7 @@ some_words (rule_line l rs) s = omega arith
 some_words (set_line e) s = omega arith
 some_words (plan_line is) s = simp length-map s.0
 
-words_of_lack : (c : ℕ) (l : Line) → c < 33 → Writable l → All (Lacks c) (words_of l)
+words_of_lack : (c : ℕ) (l : Line) → c < 33 → Writable l → AllByRecursion (Lacks c) (words_of l)
 words_of_lack c (symbol_line v xs) h s = (numbers.lacks c v h s.0, words_lack attribute_word write_attribute SmallAttribute attributes c xs h s.2)
 words_of_lack c (rule_line l rs) h s = (numbers.lacks c l h s.0, words_lack number_of decimal (λ n. n < 1000) numbers c rs h s.2)
 words_of_lack c (set_line e) h s = (pairs.lacks c (e.occurrence, e.attribute) h s.0, (numbers.lacks c e.function h s.1, words_lack argument_word write_argument SmallArgument arguments c e.arguments h s.3))

@@ -1,6 +1,6 @@
 -- Places in a list.
 use Rattle.std.proofs.Common.{◌≡◌, ℕ, zero, suc, ◌<◌, ◌⊎◌, List, [], ◌∷◌, ◌++◌, length, Some, refl, ap, subst, inl, inr, arith}
-use Rattle.std.specs.List.{AllByRecursion as All, slice_get}
+use Rattle.std.specs.List.{AllByRecursion, slice_get}
 
 pub nth_below : {X : Type 0} (xs : List X) (k : ℕ) (x : X) → slice_get xs k ≡ Some x → k < length xs
 nth_below [] k x e = absurd (grind arith)
@@ -23,7 +23,7 @@ nth_push [] y (suc k) x e = absurd (grind arith)
 nth_push (z ∷ xs) y zero x e = inl e
 nth_push (z ∷ xs) y (suc k) x e = elim (nth_push xs y k x e) [ inl h ↦ inl h | inr h ↦ inr (ap suc h.0, h.1) ]
 
-pub all_nth : {X : Type 0} (P : X → Type 0) (xs : List X) (k : ℕ) (x : X) → All P xs → slice_get xs k ≡ Some x → P x
+pub all_nth : {X : Type 0} (P : X → Type 0) (xs : List X) (k : ℕ) (x : X) → AllByRecursion P xs → slice_get xs k ≡ Some x → P x
 all_nth P [] k x h e = absurd (grind arith)
 all_nth P (y ∷ xs) zero x h e = let is : y ≡ x = cc in subst P is h.0
 all_nth P (y ∷ xs) (suc k) x h e = all_nth P xs k x h.1 e

@@ -1,6 +1,6 @@
 -- The numbers in the lines of a sound grammar are small enough to be written.
 use Rattle.std.proofs.Common.{◌≡◌, ℕ, ◌<◌, ◌≤◌, List, length, Some, None, Option, refl, arith}
-use Rattle.std.specs.List.{AllByRecursion as All, slice_get}
+use Rattle.std.specs.List.{AllByRecursion, slice_get}
 use Rattle.std.proofs.ByRecursion.{All-weaker}
 use Rattle.grammar.specs.Model.{Symbol, Equation}
 use Rattle.grammar.specs.Scopes.{Scope, visits_in, symbol_at, visits_at, attribute_at}
@@ -20,11 +20,11 @@ pub symbol_small : (s : Symbol) → SoundSymbol s → Writable (symbol_line s.vi
 symbol_small s h =
     (omega arith, h.few_attributes, All-weaker (λ x. (1 ≤ x.visit) × (x.visit ≤ s.visits)) (λ x. x.visit < 1000) (λ x k. omega arith) s.attributes h.visits_there)
 
-pub rule_small : (n l : ℕ) (rs : List ℕ) → n ≤ 32 → l < n → length rs ≤ 4 → All (λ x. x < n) rs → Writable (rule_line l rs)
+pub rule_small : (n l : ℕ) (rs : List ℕ) → n ≤ 32 → l < n → length rs ≤ 4 → AllByRecursion (λ x. x < n) rs → Writable (rule_line l rs)
 rule_small n l rs few h long k = (omega arith, long, All-weaker (λ x. x < n) (λ x. x < 1000) (λ x m. omega arith) rs k)
 
 -- at most five occurrences of symbols that are sound
-module _ (σ : Scope) (sound : All SoundSymbol σ.symbols) (few : length σ.occurrences ≤ 5) where
+module _ (σ : Scope) (sound : AllByRecursion SoundSymbol σ.symbols) (few : length σ.occurrences ≤ 5) where
   attribute_small : (o a : ℕ) (x : Attribute) → attribute_at σ o a ≡ Some x → (o < 1000) × (a < 1000)
   attribute_small o a x e =
       let p = placed σ o a x e in
@@ -58,5 +58,5 @@ module _ (σ : Scope) (sound : All SoundSymbol σ.symbols) (few : length σ.occu
   instruction_small (Visit k j) h = visit_small k j h.1 h.2
   instruction_small (Return j) h = (visit_small 0 j h.0 h.1).1
 
-  pub plan_small : (is : List Instruction) → 0 < length is → All (There σ) is → Writable (plan_line is)
+  pub plan_small : (is : List Instruction) → 0 < length is → AllByRecursion (There σ) is → Writable (plan_line is)
   plan_small is some h = (some, All-weaker (There σ) SmallInstruction instruction_small is h)

@@ -1,7 +1,7 @@
 -- What holds of all that was read so far, and the lines that it stands for.
 use Rattle.std.proofs.Common.{◌≡◌, ℕ, ◌+◌, ◌<◌, ◌≤◌, true, not, ◌&&◌, ◌⊎◌, List, [], ◌∷◌, ◌++◌, map, length, is_some, Some, None, Option, sym, refl, ap, ◌∙◌, subst, inl, inr, append_assoc, arith}
 use Rattle.std.specs.Option.{option_map}
-use Rattle.std.specs.List.{flat_map, AllByRecursion as All, slice_get}
+use Rattle.std.specs.List.{flat_map, AllByRecursion, slice_get}
 use Rattle.std.proofs.ByRecursion.{All-push}
 use Rattle.std.proofs.lemmas.List.{append-nil, length_push, map_push, flat_map_more}
 use Rattle.std.proofs.lemmas.List.Sums.{sum_by_push}
@@ -80,8 +80,8 @@ pub record SoundOpen (ss : List Symbol) (n : ℕ) (o : Open) : Type 0 where
   pub room : n < 64
   pub left_there : o.left < length ss
   pub few_right : length o.right ≤ 4
-  pub right_there : All (λ x. x < length ss) o.right
-  pub equations_sound : All (SoundEquation (scope_here ss o)) o.equations
+  pub right_there : AllByRecursion (λ x. x < length ss) o.right
+  pub equations_sound : AllByRecursion (SoundEquation (scope_here ss o)) o.equations
   pub apart : Apart o.equations
 
 abbrev pub OpenedSound : List Symbol → ℕ → Option Open → Type 0
@@ -95,10 +95,10 @@ open_sets (Some o) = length o.equations
 -- what holds of every state that lines lead to
 pub record Sofar (st : State) : Type 0 where
   pub few_symbols : length st.symbols ≤ 32
-  pub symbols_sound : All SoundSymbol st.symbols
+  pub symbols_sound : AllByRecursion SoundSymbol st.symbols
   pub start : (s : Symbol) → slice_get st.symbols 0 ≡ Some s → StartSymbol s
   pub few_rules : length st.rules ≤ 64
-  pub rules_sound : All (SoundRule st.symbols) st.rules
+  pub rules_sound : AllByRecursion (SoundRule st.symbols) st.rules
   pub open_sound : OpenedSound st.symbols (length st.rules) st.opened
   pub sets_are : st.sets ≡ sets_in st.rules + open_sets st.opened
   pub few_sets : st.sets ≤ 512

@@ -1,6 +1,6 @@
 -- Parts joined at a byte, and cut there again.
 use Rattle.std.proofs.Common.{◌≡◌, ℕ, ◌<◌, Bool, true, false, eqb, List, [], ◌∷◌, ◌++◌, length, sym, refl, ap, ◌∙◌, arith}
-use Rattle.std.specs.List.{AllByRecursion as All}
+use Rattle.std.specs.List.{AllByRecursion}
 use Rattle.std.proofs.lemmas.Bool.{eqb-true}
 use Rattle.words.specs.Cuts.{Lacks, on_first, part_or, parts_at}
 use Rattle.words.proofs.Parts.{lacks_cons, parts_found, parts_none, parts_some}
@@ -41,12 +41,12 @@ pub words_joined : (bs : List ℕ) → spaced (parts_at 32 bs) ≡ bs
 words_joined bs = spaced_joined (parts_at 32 bs) ∙ parts_join 32 bs
 
 -- words with spaces between them are cut where the spaces are
-pub words_parted : (ws : List (List ℕ)) → 0 < length ws → All (Lacks 32) ws → parts_at 32 (spaced ws) ≡ ws
+pub words_parted : (ws : List (List ℕ)) → 0 < length ws → AllByRecursion (Lacks 32) ws → parts_at 32 (spaced ws) ≡ ws
 words_parted [] l h = absurd (omega arith)
 words_parted (w ∷ []) l h = parts_none 32 w h.0
 words_parted (w ∷ v ∷ ws) l h = parts_found 32 w (spaced (v ∷ ws)) h.0 ∙ ap (λ vs. w ∷ vs) (words_parted (v ∷ ws) (omega arith) h.1)
 
-pub spaced_lacks : (c : ℕ) (ws : List (List ℕ)) → (32 ≡ c → ⊥) → All (Lacks c) ws → Lacks c (spaced ws)
+pub spaced_lacks : (c : ℕ) (ws : List (List ℕ)) → (32 ≡ c → ⊥) → AllByRecursion (Lacks c) ws → Lacks c (spaced ws)
 spaced_lacks c [] n h = λ k l e. omega arith
 spaced_lacks c (w ∷ []) n h = h.0
 spaced_lacks c (w ∷ v ∷ ws) n h = lacks_append c w (32 ∷ spaced (v ∷ ws)) h.0 (lacks_cons c 32 (spaced (v ∷ ws)) n (spaced_lacks c (v ∷ ws) n h.1))

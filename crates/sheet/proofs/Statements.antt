@@ -1,6 +1,6 @@
 -- What the proofs of reading and writing show.
 use Rattle.std.proofs.Common.{◌≡◌, ℕ, ◌<◌, ◌≤◌, true, List, [], ◌∷◌, length}
-use Rattle.std.specs.List.{flat_map, AllByRecursion as All}
+use Rattle.std.specs.List.{flat_map, AllByRecursion}
 use Rattle.words.specs.Cuts.{Lacks, parts_at}
 use Rattle.grammar.specs.Model.{Grammar}
 use Rattle.grammar.specs.declared.terms.Argument.{Argument}
@@ -34,10 +34,10 @@ SmallInstruction (Return j) = j < 1000
 
 -- what can stand in a line of that kind: numbers of at most three digits, and no more words than it may have
 abbrev pub Writable : Line → Type 0
-Writable (symbol_line v xs) = (v < 1000) × (length xs ≤ 16) × All (λ x. x.visit < 1000) xs
-Writable (rule_line l rs) = (l < 1000) × (length rs ≤ 4) × All (λ x. x < 1000) rs
-Writable (set_line e) = ((e.occurrence < 1000) × (e.attribute < 1000)) × (e.function < 1000) × (length e.arguments ≤ 3) × All SmallArgument e.arguments
-Writable (plan_line is) = (0 < length is) × All SmallInstruction is
+Writable (symbol_line v xs) = (v < 1000) × (length xs ≤ 16) × AllByRecursion (λ x. x.visit < 1000) xs
+Writable (rule_line l rs) = (l < 1000) × (length rs ≤ 4) × AllByRecursion (λ x. x < 1000) rs
+Writable (set_line e) = ((e.occurrence < 1000) × (e.attribute < 1000)) × (e.function < 1000) × (length e.arguments ≤ 3) × AllByRecursion SmallArgument e.arguments
+Writable (plan_line is) = (0 < length is) × AllByRecursion SmallInstruction is
 
 -- a line that was taken is the writing of something that its step takes
 pub record ReadAs (st : State) (bytes : List ℕ) (st' : State) : Type 0 where

@@ -1,7 +1,7 @@
 -- Each kind of word: it is read as x just where it is the writing of x.
 use Rattle.std.proofs.Common.{◌≡◌, ℕ, ◌<◌, ◌≤◌, Bool, true, false, cond, eqb, List, [], ◌∷◌, map, Some, None, decimal, Option, sym, refl, ap, ◌∙◌, subst, arith}
 use Rattle.std.specs.Int.{IsInRange}
-use Rattle.std.specs.List.{AllByRecursion as All}
+use Rattle.std.specs.List.{AllByRecursion}
 use Rattle.std.proofs.lemmas.Bool.{eqb-true}
 use Rattle.std.proofs.lemmas.Bool.Decides.{nat_tests}
 use Rattle.words.specs.Cuts.{Lacks, Halves, cut_at}
@@ -237,18 +237,18 @@ onto_back (Some y) None xs h = absurd (grind arith)
 onto_back (Some y) (Some ys) xs h = (y, ys, refl, refl, (cc))
 
 module _ {X : Type 0} (f : Token → Option X) (w : X → List ℕ) (Small : X → Type 0) (s : Spells f w Small) where
-  pub words_back : (ws : List (List ℕ)) (xs : List X) → all_of f (map lex ws) ≡ Some xs → (ws ≡ map w xs) × All Small xs
-  words_back [] xs e = let is : [] ≡ xs = cc in subst (λ ys. ([] ≡ map w ys) × All Small ys) is (refl, tt)
+  pub words_back : (ws : List (List ℕ)) (xs : List X) → all_of f (map lex ws) ≡ Some xs → (ws ≡ map w xs) × AllByRecursion Small xs
+  words_back [] xs e = let is : [] ≡ xs = cc in subst (λ ys. ([] ≡ map w ys) × AllByRecursion Small ys) is (refl, tt)
   words_back (v ∷ ws) xs e =
       let p = onto_back (f (lex v)) (all_of f (map lex ws)) xs e in
       let one = s.back v p.0 p.2 in
       let more = words_back ws p.1 p.3 in
-      subst (λ ys. (v ∷ ws ≡ map w ys) × All Small ys) p.4 ((λ i. one.0 i ∷ more.0 i), (one.1, more.1))
+      subst (λ ys. (v ∷ ws ≡ map w ys) × AllByRecursion Small ys) p.4 ((λ i. one.0 i ∷ more.0 i), (one.1, more.1))
 
-  pub words_come : (xs : List X) → All Small xs → all_of f (map lex (map w xs)) ≡ Some xs
+  pub words_come : (xs : List X) → AllByRecursion Small xs → all_of f (map lex (map w xs)) ≡ Some xs
   words_come [] h = refl
   words_come (x ∷ xs) h = (λ i. onto (s.come x h.0 i) (words_come xs h.1 i))
 
-  pub words_lack : (c : ℕ) (xs : List X) → c < 33 → All Small xs → All (Lacks c) (map w xs)
+  pub words_lack : (c : ℕ) (xs : List X) → c < 33 → AllByRecursion Small xs → AllByRecursion (Lacks c) (map w xs)
   words_lack c [] l h = tt
   words_lack c (x ∷ xs) l h = (s.lacks c x l h.0, words_lack c xs l h.1)

@@ -1,6 +1,6 @@
 -- What a grammar has to meet, rule by rule.
 use Rattle.std.specs.Prelude.{◌≡◌, ℕ, ◌<◌, ◌≤◌, List, ◌∷◌, ◌++◌, length, Some, sum_by}
-use Rattle.std.specs.List.{flat_map, AllByRecursion as All, slice_get}
+use Rattle.std.specs.List.{flat_map, AllByRecursion, slice_get}
 use Rattle.grammar.specs.Model.{Symbol, Equation, Rule, Grammar}
 use Rattle.grammar.specs.Scopes.{Scope, visits_at, attribute_at, Defined, TakenAt}
 use Rattle.grammar.specs.declared.terms.Flow.TheVariants.{Synthesized}
@@ -21,12 +21,12 @@ pub record SoundSymbol (s : Symbol) : Type 0 where
   pub some_visit : 1 ≤ s.visits
   pub few_visits : s.visits ≤ 4
   pub few_attributes : length s.attributes ≤ 16
-  pub visits_there : All (λ x. (1 ≤ x.visit) × (x.visit ≤ s.visits)) s.attributes
+  pub visits_there : AllByRecursion (λ x. (1 ≤ x.visit) × (x.visit ≤ s.visits)) s.attributes
 
 -- the start symbol has one visit and no inherited attribute
 pub record StartSymbol (s : Symbol) : Type 0 where
   pub one_visit : s.visits ≡ 1
-  pub synthesized : All (λ x. x.flow ≡ Synthesized) s.attributes
+  pub synthesized : AllByRecursion (λ x. x.flow ≡ Synthesized) s.attributes
 
 abbrev pub scope_of_rule : List Symbol → Rule → Scope
 scope_of_rule symbols r = record { symbols = symbols; occurrences = r.left ∷ r.right }
@@ -41,7 +41,7 @@ pub record SoundEquation (σ : Scope) (e : Equation) : Type 0 where
   pub small_function : e.function ≤ 255
   pub few_arguments : length e.arguments ≤ 3
   pub target : Defined σ e.occurrence e.attribute
-  pub arguments_taken : All (Taken σ) e.arguments
+  pub arguments_taken : AllByRecursion (Taken σ) e.arguments
 
 -- equation number q is the only one for attribute a of occurrence o
 pub record OnlyEquation (es : List Equation) (q o a : ℕ) : Type 0 where
@@ -60,11 +60,11 @@ There σ (Return j) = (1 ≤ j) × (j ≤ visits_at σ 0)
 pub record SoundRule (symbols : List Symbol) (r : Rule) : Type 0 where
   pub left_there : r.left < length symbols
   pub few_right : length r.right ≤ 4
-  pub right_there : All (λ x. x < length symbols) r.right
-  pub equations_sound : All (SoundEquation (scope_of_rule symbols r)) r.equations
+  pub right_there : AllByRecursion (λ x. x < length symbols) r.right
+  pub equations_sound : AllByRecursion (SoundEquation (scope_of_rule symbols r)) r.equations
   -- each attribute that the rule defines has exactly one equation
   pub one_equation : (o a : ℕ) → Defined (scope_of_rule symbols r) o a → (q : ℕ) × OnlyEquation r.equations q o a
-  pub instructions_there : All (There (scope_of_rule symbols r)) r.plan
+  pub instructions_there : AllByRecursion (There (scope_of_rule symbols r)) r.plan
   pub planned : Planned (scope_of_rule symbols r) r.equations r.plan
 
 abbrev pub sets_in : List Rule → ℕ
@@ -76,11 +76,11 @@ instructions_in rules = sum_by (λ r. length r.plan) rules
 pub record Sound (g : Grammar) : Type 0 where
   pub some_symbol : 1 ≤ length g.symbols
   pub few_symbols : length g.symbols ≤ 32
-  pub symbols_sound : All SoundSymbol g.symbols
+  pub symbols_sound : AllByRecursion SoundSymbol g.symbols
   pub start : (s : Symbol) → slice_get g.symbols 0 ≡ Some s → StartSymbol s
   pub some_rule : 1 ≤ length g.rules
   pub few_rules : length g.rules ≤ 64
-  pub rules_sound : All (SoundRule g.symbols) g.rules
+  pub rules_sound : AllByRecursion (SoundRule g.symbols) g.rules
   pub few_sets : sets_in g.rules ≤ 512
   pub few_instructions : instructions_in g.rules ≤ 1024
 

@@ -1,6 +1,6 @@
 -- A sound grammar is accepted: from places in a plan to its front parts.
 use Rattle.std.proofs.Common.{◌≡◌, ℕ, zero, suc, ◌+◌, ◌<◌, ◌≤◌, ◌⊎◌, List, [], ◌∷◌, ◌++◌, length, get_or, take, Some, None, count_by, Option, sym, refl, ap, ◌∙◌, subst, inl, inr, ⊎_elim, arith}
-use Rattle.std.specs.List.{AllByRecursion as All, slice_get}
+use Rattle.std.specs.List.{AllByRecursion, slice_get}
 use Rattle.std.proofs.ByRecursion.{All-get_or}
 use Rattle.std.proofs.lemmas.List.{get_or_past}
 use Rattle.std.proofs.lemmas.Option.{slice_get-get_or}
@@ -28,7 +28,7 @@ use Rattle.tour.proofs.Ruled.{returns, Defines, Grammatical, Stands, Planned, Ac
 use Rattle.tour.proofs.Segments.{returns_counted, returns_append}
 use Rattle.tour.proofs.Ruled.Defines.{own, given}
 
-pub all_in : {X : Type 0} (P : X → Type 0) (xs : List X) (x : X) → All P xs → In x xs → P x
+pub all_in : {X : Type 0} (P : X → Type 0) (xs : List X) (x : X) → AllByRecursion P xs → In x xs → P x
 all_in P [] x h m = absurd m
 all_in P (y ∷ xs) x h (inl e) = subst P (sym e) h.0
 all_in P (y ∷ xs) x h (inr m) = all_in P xs x h.1 m
@@ -159,7 +159,7 @@ module _ (σ : Grammar) (ρ : Rule) where
     taken : (o a p b : ℕ) → Takes ρ o a p b → TakenAt scope p b
     taken o a p b (q, m, eo, ea, n) = all_in (Taken scope) q.arguments (Of p b) (all_in (SoundEquation scope) ρ.equations q sound.equations_sound m).arguments_taken n
 
-    grammatical : All SoundSymbol σ.symbols → Grammatical σ ρ
+    grammatical : AllByRecursion SoundSymbol σ.symbols → Grammatical σ ρ
     grammatical symbols = record {
       visit_low = λ x a j k h. (timed x a j k h).0;
       visit_high = λ x a j k h. (timed x a j k h).1;

@@ -1,7 +1,7 @@
 -- What the code of evaluation has to show.
 use Rattle.std.proofs.Common.{◌≡◌, ℕ, zero, suc, ◌+◌, ◌*◌, ◌<◌, ◌≤◌, Bool, true, false, cond, not, ◌&&◌, eqb, ltb, ◌⊎◌, List, [], ◌∷◌, map, length, get_or, is_some, Some, None, Decides, MatchBool, Option, unwrap_or, sym, refl, ap, ◌∙◌, subst, inl, inr, arith}
 use Rattle.std.specs.Option.{option_map}
-use Rattle.std.specs.List.{slice_get, AllByRecursion as All}
+use Rattle.std.specs.List.{slice_get, AllByRecursion}
 use Rattle.std.proofs.lemmas.Option.{slice_get_read}
 use Rattle.std.proofs.lemmas.Bool.{cases_order}
 use Rattle.std.proofs.lemmas.Bool.Decides.{nat_tests}
@@ -70,10 +70,10 @@ read_nth (x ∷ xs) (suc i) d = read_nth xs i d
 pub value_kept : {V : Type 0} (missing : V) (vs : List V) (p a : ℕ) → a < 16 → value_at missing vs (p, a) ≡ get_or vs (16 * p + a) missing
 value_kept missing vs p a h = let t : ltb a 16 ≡ true = grind (arith, nat_tests) in ap (λ b. cond b (get_or vs (16 * p + a) missing) missing) t
 
-pub named_nth : (n : ℕ) (xs : List Argument) (i : ℕ) (o : Option Argument) → o ≡ slice_get xs i → All (NamedIn n) xs → NamedIf n o
+pub named_nth : (n : ℕ) (xs : List Argument) (i : ℕ) (o : Option Argument) → o ≡ slice_get xs i → AllByRecursion (NamedIn n) xs → NamedIf n o
 named_nth n xs i o e h = subst (NamedIf n) (sym e) (at xs i h)
   where
-    at : (xs : List Argument) (i : ℕ) → All (NamedIn n) xs → NamedIf n (slice_get xs i)
+    at : (xs : List Argument) (i : ℕ) → AllByRecursion (NamedIn n) xs → NamedIf n (slice_get xs i)
     at [] i h = tt
     at (x ∷ xs) zero h = h.0
     at (x ∷ xs) (suc i) h = at xs i h.1
@@ -108,11 +108,11 @@ named_weaker : (n m : ℕ) → n ≤ m → (x : Argument) → NamedIn n x → Na
 named_weaker n m l Datum h = tt
 named_weaker n m l (Of o b) h = omega arith
 
-equation_named : (n o a : ℕ) (qs : List Equation) → All (λ q. All (NamedIn n) q.arguments) qs → All (NamedIn n) (equation o a qs).arguments
+equation_named : (n o a : ℕ) (qs : List Equation) → AllByRecursion (λ q. AllByRecursion (NamedIn n) q.arguments) qs → AllByRecursion (NamedIn n) (equation o a qs).arguments
 equation_named n o a [] h = tt
 equation_named n o a (q ∷ qs) h = by (eqb q.occurrence o && eqb q.attribute a) (equation_named n o a qs h.1)
   where
-    by : (b : Bool) → All (NamedIn n) (equation o a qs).arguments → All (NamedIn n) (cond b q (equation o a qs)).arguments
+    by : (b : Bool) → AllByRecursion (NamedIn n) (equation o a qs).arguments → AllByRecursion (NamedIn n) (cond b q (equation o a qs)).arguments
     by true k = h.0
     by false k = k
 
@@ -132,8 +132,8 @@ used_within ps p u = by (cases_order p (length ps))
 pub record Ready (g : Grammar) (ps : List (Option Node)) (m : Met) : Type 0 where
   -- its equation is there, and takes from occurrences that are there
   pub equation_there : NoEquation m.occurrence m.attribute (equations_at g (table g ps) m.rule_place) → ⊥
-  pub named : All (NamedIn (length (table g ps m.rule_place).kids)) (equation m.occurrence m.attribute (equations_at g (table g ps) m.rule_place)).arguments
-  pub few : All (NamedIn 4) (equation m.occurrence m.attribute (equations_at g (table g ps) m.rule_place)).arguments
+  pub named : AllByRecursion (NamedIn (length (table g ps m.rule_place).kids)) (equation m.occurrence m.attribute (equations_at g (table g ps) m.rule_place)).arguments
+  pub few : AllByRecursion (NamedIn 4) (equation m.occurrence m.attribute (equations_at g (table g ps) m.rule_place)).arguments
   pub attribute_small : m.attribute < 16
   pub place_there : m.place < length ps
 
@@ -145,14 +145,14 @@ ready g ps m w so e =
     let sr : SoundRule g.symbols ρ = All-get_or (SoundRule g.symbols) g.rules (table g ps p).rule no_rule r w.rules_sound in
     let stands = nth_in ρ.plan (Evaluate m.occurrence m.attribute) e.stands in
     let only = sr.one_equation m.occurrence m.attribute ((sr.planned OneEvaluation).1 stands.0 m.occurrence m.attribute stands.1) in
-    let named : All (NamedIn (length ρ.right)) (equation m.occurrence m.attribute ρ.equations).arguments =
+    let named : AllByRecursion (NamedIn (length ρ.right)) (equation m.occurrence m.attribute ρ.equations).arguments =
     equation_named (length ρ.right) m.occurrence m.attribute ρ.equations
-    (All-weaker (SoundEquation (scope_of_rule g.symbols ρ)) (λ q. All (NamedIn (length ρ.right)) q.arguments)
+    (All-weaker (SoundEquation (scope_of_rule g.symbols ρ)) (λ q. AllByRecursion (NamedIn (length ρ.right)) q.arguments)
     (λ q s. All-weaker (Taken (scope_of_rule g.symbols ρ)) (NamedIn (length ρ.right)) (taken_named g.symbols ρ) q.arguments s.arguments_taken) ρ.equations sr.equations_sound) in
     let names = evaluate_names g ps p m.occurrence m.attribute w so e.rule_place_used e.stands in
     record {
       equation_there = λ h. h only.0 only.1.equation only.1.stands only.1.occurrence_is only.1.attribute_is_lem;
-      named = subst (λ n. All (NamedIn n) (equation m.occurrence m.attribute ρ.equations).arguments) (sym (kids_right g ps p e.rule_place_used)) named;
+      named = subst (λ n. AllByRecursion (NamedIn n) (equation m.occurrence m.attribute ρ.equations).arguments) (sym (kids_right g ps p e.rule_place_used)) named;
       few = All-weaker (NamedIn (length ρ.right)) (NamedIn 4) (named_weaker (length ρ.right) 4 sr.few_right) (equation m.occurrence m.attribute ρ.equations).arguments named;
       attribute_small = names.1;
       place_there = used_within ps m.place (subst (λ q. used ps q ≡ true) (sym e.place_is) (occurrence_used g ps p m.occurrence so e.rule_place_used names.0));

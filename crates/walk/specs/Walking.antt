@@ -1,6 +1,6 @@
 -- When a walk is under way in a table of places.
 use Rattle.std.specs.Prelude.{◌≡◌, ℕ, ◌<◌, ◌≤◌, Bool, true, false, List, [], ◌∷◌, ◌++◌, length, Some, Option, ◌≢◌}
-use Rattle.std.specs.List.{AllByRecursion as All, slice_get}
+use Rattle.std.specs.List.{AllByRecursion, slice_get}
 use Rattle.grammar.specs.Model.{Grammar}
 use Rattle.grammar.specs.declared.terms.Instruction.TheVariants.{Evaluate, Visit}
 use Rattle.places.specs.Places.{used, table, owed_at}
@@ -41,7 +41,7 @@ pub record Walking (g : Grammar) (ps : List (Option Node)) (s : Stand) : Type 0 
   pub place_used : used ps s.place ≡ true
   pub next_there : s.next < length (plan_at g (table g ps) s.place)
   pub mode_fits : Fits g ps s.mode s.place s.next
-  pub frames_visit : All (λ f. Visits g ps f.place f.instruction) s.frames
+  pub frames_visit : AllByRecursion (λ f. Visits g ps f.place f.instruction) s.frames
   -- no visit finds all cells taken
   pub few_frames : length s.frames ≤ 63
   pub enough_room : 64 ≤ s.room

@@ -1,6 +1,6 @@
 // The evaluation of an instance.
 ghost use Rattle.std.specs.Prelude.{◌≡◌, ◌+◌, ◌*◌, ◌<◌, ◌≤◌, true, map, length, MatchBool, MatchOption, ◌≢◌, slice_index_or, slice_set};
-ghost use Rattle.std.specs.List.{AllByRecursion as All};
+ghost use Rattle.std.specs.List.{AllByRecursion};
 ghost use Rattle.grammar.specs.Listed.{listed};
 ghost use Rattle.grammar.specs.Model.{Grammar};
 ghost use Rattle.grammar.specs.Rows.{equation_of};
@@ -93,8 +93,8 @@ fn argument_value<A: Archive>(
     number: usize,
 ) -> A::Value
     requires there { used places.now place ≡ true }
-    requires few { All (NamedIn 4) (listed equation.now.arguments) }
-    ensures* { λ r. ⌜ ((g : Grammar) → All (NamedIn (length (table g places.now place).kids)) (listed equation.now.arguments) → r ≡ argument_by (meaning_of (leafs archive.now) (result archive.now)) (table g places.now) place (value_at (leafs archive.now 0) values.now) (listed equation.now.arguments) number) ⌝ }
+    requires few { AllByRecursion (NamedIn 4) (listed equation.now.arguments) }
+    ensures* { λ r. ⌜ ((g : Grammar) → AllByRecursion (NamedIn (length (table g places.now place).kids)) (listed equation.now.arguments) → r ≡ argument_by (meaning_of (leafs archive.now) (result archive.now)) (table g places.now) place (value_at (leafs archive.now 0) values.now) (listed equation.now.arguments) number) ⌝ }
 {
     let argument = equation.arguments.as_slice().get(number).copied();
     given(archive, places, values, place, argument)
@@ -109,8 +109,8 @@ fn result_of<A: Archive>(
     equation: &EquationRow,
 ) -> A::Value
     requires there { used places.now place ≡ true }
-    requires few { All (NamedIn 4) (listed equation.now.arguments) }
-    ensures* { λ r. ⌜ ((g : Grammar) → All (NamedIn (length (table g places.now place).kids)) (listed equation.now.arguments) → r ≡ result_by (meaning_of (leafs archive.now) (result archive.now)) (table g places.now) place (value_at (leafs archive.now 0) values.now) (equation_of equation.now)) ⌝ }
+    requires few { AllByRecursion (NamedIn 4) (listed equation.now.arguments) }
+    ensures* { λ r. ⌜ ((g : Grammar) → AllByRecursion (NamedIn (length (table g places.now place).kids)) (listed equation.now.arguments) → r ≡ result_by (meaning_of (leafs archive.now) (result archive.now)) (table g places.now) place (value_at (leafs archive.now 0) values.now) (equation_of equation.now)) ⌝ }
 {
     let first = argument_value(archive, places, values, place, equation, 0);
     let second = argument_value(archive, places, values, place, equation, 1);

@@ -1,6 +1,6 @@
 use Rattle.tour.proofs.Results.{own_worth}
 use Rattle.std.proofs.Common.{◌≡◌, ◌+◌, ◌*◌, ◌<◌, length, get_or, set, sym, ap, ◌∙◌, subst, arith}
-use Rattle.std.specs.List.{AllByRecursion as All}
+use Rattle.std.specs.List.{AllByRecursion}
 use Rattle.std.proofs.lemmas.List.{get_or_read}
 use Rattle.std.proofs.lemmas.Bool.Decides.{Decides-like}
 use Rattle.places.specs.Places.{table, value_at}
@@ -18,7 +18,7 @@ returns-in_default g c = absurd ((ready _ _ _ c.requires.accepted c.requires.sou
 pub result_of-new-requires : goal.result_of-new-requires
 result_of-new-requires g c =
     let h = ready _ _ _ c.requires.accepted c.requires.sound c.requires.meeting in
-    record { there = c.requires.meeting.rule_place_used; few = subst (λ q. All (NamedIn 4) q.arguments) c.in-Some.ensures h.few }
+    record { there = c.requires.meeting.rule_place_used; few = subst (λ q. AllByRecursion (NamedIn 4) q.arguments) c.in-Some.ensures h.few }
 
 pub put-old-requires : goal.put-old-requires
 put-old-requires g c =
@@ -37,7 +37,7 @@ returns g c =
     let i = 16 * c.from.result + c.from-2.result in
     let at : i ≡ 16 * m.place + m.attribute = omega (arith, c.from.ensures, c.from-2.ensures) in
     let inside : i < length vs = omega (arith, h.attribute_small, h.place_there, c.requires.room, c.from.ensures, c.from-2.ensures) in
-    let new = c.result_of-new.ensures σ (subst (λ q. All (NamedIn (length (T m.rule_place).kids)) q.arguments) c.in-Some.ensures h.named)
+    let new = c.result_of-new.ensures σ (subst (λ q. AllByRecursion (NamedIn (length (T m.rule_place).kids)) q.arguments) c.in-Some.ensures h.named)
     ∙ ap (result_by M T m.rule_place (value_at missing vs)) (sym c.in-Some.ensures)
     ∙ sym (own_worth M σ T m.rule_place m.occurrence m.attribute (value_at missing vs)) in
     let old = get_or_read vs i c.put-old.result inside c.put-old.ensures.old missing ∙ ap (λ n. get_or vs n missing) at ∙ sym (value_kept missing vs m.place m.attribute h.attribute_small) in
