@@ -1,5 +1,5 @@
 -- The tour of a tree, read off the table.
-use Rattle.std.proofs.Common.{◌≡◌, ℕ, zero, suc, ◌+◌, ◌<◌, List, [], ◌∷◌, ◌++◌, length, get_or, sym, refl, ap, subst, ap₂, inl, inr, arith}
+use Rattle.std.proofs.Common.{◌≡◌, ℕ, zero, suc, ◌<◌, List, [], ◌∷◌, ◌++◌, length, get_or, sym, refl, ap, subst, ap₂, inl, inr, arith}
 use Rattle.tour.specs.Runs.{In}
 use Rattle.grammar.specs.Model.{Grammar}
 use Rattle.grammar.specs.declared.terms.Instruction.{Instruction}

@@ -10,7 +10,6 @@ use Rattle.plans.proofs.Deciding.{never}
 use Rattle.sheet.specs.Meaning.{Sound}
 use Rattle.tour.specs.Trees.{Instance, Forest, at_of, part, up_to, listed}
 use Rattle.tour.specs.Touring.{tour}
-use Rattle.tour.specs.Rules.{rule}
 use Rattle.tour.specs.Nodes.{Table}
 use Rattle.tour.specs.Shapes.{tree_at_lem}
 use Rattle.tour.specs.Roots.{Rooted}

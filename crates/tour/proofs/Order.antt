@@ -1,5 +1,5 @@
 -- Along a plan, and so along the tour of a tree, each instance stands behind its arguments.
-use Rattle.std.proofs.Common.{◌≡◌, ℕ, zero, suc, ◌+◌, ◌<◌, ◌≤◌, ◌⊎◌, List, [], ◌∷◌, ◌++◌, length, get_or, sym, refl, ap, ◌∙◌, subst, inl, inr, append_assoc, arith}
+use Rattle.std.proofs.Common.{◌≡◌, ℕ, zero, suc, ◌<◌, ◌≤◌, ◌⊎◌, List, [], ◌∷◌, ◌++◌, length, get_or, sym, refl, ap, ◌∙◌, subst, inl, inr, append_assoc, arith}
 use Rattle.tour.specs.Runs.{In}
 use Rattle.grammar.specs.Model.{Grammar, Rule}
 use Rattle.grammar.specs.declared.terms.Instruction.{Instruction}
