@@ -3,7 +3,6 @@ use mathlib.Core.Bool.{false≢true}
 use Rattle.grammar.specs.Model.{Rule}
 use Rattle.grammar.specs.Scopes.{scope_of, attributes_at}
 use Rattle.sheet.specs.Answers.{grammar_of, group_rule}
-use Rattle.tour.specs.Rules.{rule}
 use Rattle.places.specs.Places.{at, attributes}
 use Rattle.places.specs.Shape.{ChildThere}
 use Rattle.places.proofs.Looks.{refuses, rule_found, rule_missing, rule_attributes}
@@ -29,7 +28,7 @@ returns-then-climb c =
     rule_attributes g (scope_of c.in-Some.field-0.production) c.args.node.rule c.in-Some.ensures.symbols (sym (ap (λ r. r.left) found.0)) (omega arith) in (
       (λ e. record {
         rule_there = found.1;
-        row = omega (arith, c.well-formed.1.1.1.0);
+        row = omega (arith, c.well_formed.1.1.1.0);
         children_there = subst All-there (sym found.0) (c.if-not-children_are_there.ensures.0 refl);
         parent_there = c.if-not-parent_is_there.ensures.0 refl;
         ends = sym c.climb.ensures.ended_is ∙ c.if-climb.true;

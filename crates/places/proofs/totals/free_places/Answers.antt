@@ -7,8 +7,8 @@ use Rattle.places.proofs.totals.free_places.Goals.{then-is_none, else-is_none}
 
 pub loop-place-preserved : goal.loop-place-preserved
 loop-place-preserved c = elim c.if-is_none.branch [
-  | then-is_none w ↦ (w.free_is ∙ ap (λ n. n + 1) c.loop-place.invariant.0 ∙ sym (count_by_more_yes is_free c.args.places.now c.loop-place.place-index None c.loop-place-test.true (ap not w.if-is_none.ensures)), omega (arith, w.free_is, c.loop-place.invariant.1))
-  | else-is_none w ↦ (w.free_is ∙ c.loop-place.invariant.0 ∙ sym (count_by_more_no is_free c.args.places.now c.loop-place.place-index None c.loop-place-test.true (ap not w.if-is_none.ensures)), omega (arith, w.free_is, c.loop-place.invariant.1))
+  | then-is_none w ↦ (w.free-is ∙ ap (λ n. n + 1) c.loop-place.invariant.0 ∙ sym (count_by_more_yes is_free c.args.places.now c.loop-place.place-index None c.loop-place-test.true (ap not w.if-is_none.ensures)), omega (arith, w.free-is, c.loop-place.invariant.1))
+  | else-is_none w ↦ (w.free-is ∙ c.loop-place.invariant.0 ∙ sym (count_by_more_no is_free c.args.places.now c.loop-place.place-index None c.loop-place-test.true (ap not w.if-is_none.ensures)), omega (arith, w.free-is, c.loop-place.invariant.1))
 ]
 
 pub returns : goal.returns
