@@ -1,26 +1,26 @@
 -- An instance is taken just where it is an argument.
 use Rattle.tour.specs.Results.{Meaning, source, link_sources, defining}
 use Rattle.tour.specs.Runs.{named}
-use Rattle.std.proofs.Common.{◌≡◌, ℕ, zero, suc, ◌-◌, ◌<◌, ◌≤◌, Bool, true, false, cond, ◌&&◌, ◌||◌, eqb, ◌⊎◌, List, [], ◌∷◌, map, length, get_or, is_some, Some, None, Decides, Option, sym, refl, ap, ◌∙◌, subst, ap₂, inl, inr, arith, eq-eqb, eqb-true}
+use Rattle.std.proofs.Common.{◌≡◌, ℕ, zero, suc, ◌-◌, ◌<◌, Bool, true, false, cond, ◌&&◌, eqb, ◌⊎◌, List, [], ◌∷◌, map, length, get_or, Some, Decides, Option, sym, refl, ap, ◌∙◌, subst, ap₂, inl, inr, arith, eq-eqb, eqb-true}
 use Rattle.std.proofs.lemmas.Bool.{and_parts}
 use Rattle.std.specs.List.{slice_get}
-use Rattle.grammar.specs.Model.{Equation, Rule, Grammar}
-use Rattle.grammar.specs.Scopes.{defined_flow, taken_flow}
+use Rattle.grammar.specs.Model.{Equation, Grammar}
+use Rattle.grammar.specs.Scopes.{defined_flow}
 use Rattle.grammar.specs.Tests.{some}
 use Rattle.grammar.specs.declared.terms.Argument.{Argument}
 use Rattle.grammar.specs.declared.terms.Argument.TheVariants.{Datum, Of}
 use Rattle.grammar.specs.declared.terms.Flow.{Flow}
 use Rattle.grammar.specs.declared.terms.Flow.TheVariants.{Inherited, Synthesized}
-use Rattle.sheet.specs.Meaning.{Sound, SoundRule, SoundEquation, OnlyEquation, Taken, scope_of_rule}
-use Rattle.tour.specs.Rules.{rule, symbol, occurs, no_attribute}
+use Rattle.sheet.specs.Meaning.{Sound, SoundEquation, Taken, scope_of_rule}
+use Rattle.tour.specs.Rules.{rule, symbol, no_attribute}
 use Rattle.tour.specs.Runs.{In}
 use Rattle.tour.specs.Trees.{Instance, at_of}
 use Rattle.tour.specs.Nodes.{Link, Table}
 use Rattle.tour.specs.Nodes.Link.{top, under}
 use Rattle.tour.specs.Results.{equation}
 use Rattle.tour.specs.Nodes.{flow_of}
-use Rattle.places.specs.Places.{at, used, parent_in, parent_at, link_of, arity, cell_of, table}
-use Rattle.places.specs.Shape.{SoundNode, SoundPlaces}
+use Rattle.places.specs.Places.{at, used, parent_at, link_of, arity, cell_of, table}
+use Rattle.places.specs.Shape.{SoundPlaces}
 use Rattle.places.specs.declared.node.Node.{Node}
 use Rattle.places.specs.declared.node.Parent.{Parent}
 use Rattle.exchange.specs.Takers.{takes_from, wakes, takers_among, takers_at, takers_above, takers_in, takers_of, TakersLaw}

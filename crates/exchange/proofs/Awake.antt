@@ -1,14 +1,13 @@
 -- After an exchange every instance is owed that has to be.
-use Rattle.std.proofs.Common.{◌≡◌, ℕ, zero, suc, ◌-◌, ◌<◌, ◌≤◌, Bool, true, false, cond, ◌&&◌, ◌||◌, eqb, ◌⊎◌, List, [], ◌∷◌, map, length, get_or, is_some, Some, None, Option, sym, refl, ap, ◌∙◌, subst, ap₂, inl, inr, arith, eq-eqb, ne_eqb}
+use Rattle.std.proofs.Common.{◌≡◌, ℕ, zero, suc, ◌-◌, ◌<◌, Bool, true, false, cond, ◌&&◌, ◌||◌, ◌⊎◌, List, [], ◌∷◌, length, get_or, is_some, Some, None, Option, sym, refl, ap, ◌∙◌, subst, ap₂, inl, inr, arith, eq-eqb, ne_eqb}
 use Rattle.std.proofs.lemmas.Bool.Decides.{nat_tests}
 use Rattle.std.proofs.lemmas.List.{get_or-map}
 use Rattle.std.specs.Option.{option_map}
 use Rattle.std.specs.List.{AllByRecursion, slice_get}
-use Rattle.grammar.specs.Model.{Equation, Rule, Grammar}
+use Rattle.grammar.specs.Model.{Equation, Grammar}
 use Rattle.grammar.specs.Scopes.{flows, same_flow}
 use Rattle.grammar.specs.Tests.{some}
-use Rattle.grammar.specs.declared.terms.Argument.{Argument}
-use Rattle.grammar.specs.declared.terms.Argument.TheVariants.{Datum, Of}
+use Rattle.grammar.specs.declared.terms.Argument.TheVariants.{Of}
 use Rattle.grammar.specs.declared.terms.Attribute.{Attribute}
 use Rattle.grammar.specs.declared.terms.Flow.{Flow}
 use Rattle.grammar.specs.declared.terms.Flow.TheVariants.{Inherited, Synthesized}
@@ -16,27 +15,26 @@ use Rattle.sheet.specs.Meaning.{Sound, SoundEquation, Taken, scope_of_rule}
 use Rattle.tour.specs.Rules.{rule, symbol, no_attribute, Takes}
 use Rattle.tour.specs.Runs.{In}
 use Rattle.tour.specs.Trees.{Instance, at_of}
-use Rattle.tour.specs.Nodes.{Link, Cell, Table}
-use Rattle.tour.specs.Nodes.Link.{top, under}
+use Rattle.tour.specs.Nodes.Link.{under}
 use Rattle.tour.specs.Results.{Touches}
 use Rattle.tour.specs.Nodes.{attributes_at_lem, flow_of}
 use Rattle.tour.specs.Steady.{Live, Woken}
 use Rattle.tour.specs.Steady.Woken.{root, own, sibling}
 use Rattle.tour.specs.Exchange.{swap, Exchanged}
 use Rattle.places.specs.Marks.{owes}
-use Rattle.places.specs.Places.{at, used, parent_in, parent_at, link_of, marks_in, owed_at, arity, cell_of, table}
+use Rattle.places.specs.Places.{at, used, parent_at, link_of, marks_in, owed_at, arity, cell_of, table}
 use Rattle.places.specs.Shape.{SoundPlaces}
 use Rattle.places.specs.declared.node.Node.{Node}
 use Rattle.places.specs.declared.node.Parent.{Parent}
-use Rattle.exchange.specs.Exchanging.{hung_below, hung, inherited_at, woken_below, ExchangedPlaces}
+use Rattle.exchange.specs.Exchanging.{hung_below, inherited_at, woken_below, ExchangedPlaces}
 use Rattle.exchange.specs.Setting.{with_child, with_parent, changed_at}
 use Rattle.exchange.specs.Takers.{takes_from, wakes, takers_among, takers_at}
-use Rattle.exchange.specs.Waking.{Remarked, Woke, is_at}
+use Rattle.exchange.specs.Waking.{Woke}
 use Rattle.exchange.specs.declared.taken.Taken.TheVariants.{Occurrence}
 use Rattle.exchange.proofs.Blocks.{node_there}
 use Rattle.exchange.proofs.Fields.{changed_keeps}
 use Rattle.exchange.proofs.Marking.{remarked_table, remarked_used}
-use Rattle.exchange.proofs.Sheets.{Standing, standing, rule_sound}
+use Rattle.exchange.proofs.Sheets.{standing, rule_sound}
 use Rattle.exchange.proofs.Soundness.{Hangs, hangs}
 use Rattle.exchange.proofs.Swapping.{keeps, link_is, hung_rule, hung_exchanged, only_child}
 use Rattle.exchange.proofs.Targets.{kids_at, kids_length}

@@ -1,16 +1,16 @@
 -- A block on its way to being free.
-use Rattle.std.proofs.Common.{◌≡◌, ℕ, zero, suc, ◌+◌, ◌-◌, ◌*◌, ◌<◌, ◌≤◌, Bool, true, false, eqb, ◌⊎◌, List, [], ◌∷◌, ◌++◌, length, get_or, set, is_some, Some, None, Option, sym, refl, ap, ◌∙◌, subst, inl, inr, arith, length-append, get_or-set_other, get_or-set_same, eqb-true}
+use Rattle.std.proofs.Common.{◌≡◌, ℕ, zero, suc, ◌-◌, ◌<◌, Bool, true, false, eqb, ◌⊎◌, List, [], ◌∷◌, ◌++◌, length, get_or, set, is_some, Some, None, Option, sym, refl, ap, ◌∙◌, subst, inl, inr, arith, length-append, get_or-set_other, get_or-set_same, eqb-true}
 use borrow.Author.Tests.{eqb-false}
 use Rattle.std.proofs.lemmas.List.{length-set, same_from_push}
 use Rattle.grammar.specs.Model.{Grammar}
 use Rattle.tour.specs.Rules.{rule}
-use Rattle.places.specs.Places.{at, used, parent_in, parent_at, arity, table, cell_of}
-use Rattle.places.specs.Shape.{climbs, top_from, ChildThere, ParentThere, HangsBelow, SoundNode, SoundPlaces}
+use Rattle.places.specs.Places.{at, used, parent_in, parent_at, arity, table}
+use Rattle.places.specs.Shape.{top_from, ChildThere, ParentThere, HangsBelow, SoundPlaces}
 use Rattle.places.specs.declared.node.Node.{Node}
 use Rattle.places.specs.declared.node.Parent.{Parent}
 use Rattle.exchange.specs.Freeing.{Freed, UsedChild}
-use Rattle.exchange.specs.Takers.{Fits, FitsThere, FitsAt}
-use Rattle.exchange.proofs.Climbing.{lineage, passed, lineage_passed, lineage_length, climbs_top, top_top, up, Up, climbs_up, top_up}
+use Rattle.exchange.specs.Takers.{FitsThere, FitsAt}
+use Rattle.exchange.proofs.Climbing.{lineage, passed, lineage_passed, lineage_length, top_top, up, top_up}
 use Rattle.exchange.proofs.Soundness.{sound_fits}
 use Rattle.exchange.proofs.Targets.{used_within, kids_length, kids_at}
 

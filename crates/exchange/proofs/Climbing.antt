@@ -1,5 +1,5 @@
 -- Climbing from a place to its block's root.
-use Rattle.std.proofs.Common.{◌≡◌, ℕ, zero, suc, ◌+◌, ◌<◌, ◌≤◌, Bool, true, false, List, [], ◌∷◌, ◌++◌, length, Some, None, Option, sym, refl, ap, ◌∙◌, subst, arith, length-append}
+use Rattle.std.proofs.Common.{◌≡◌, ℕ, zero, suc, ◌≤◌, true, List, [], ◌∷◌, ◌++◌, length, Some, None, Option, sym, refl, ap, ◌∙◌, arith, length-append}
 use Rattle.places.specs.Places.{parent_at}
 use Rattle.places.specs.Shape.{climbs, top_from, depth_from}
 use Rattle.places.specs.declared.node.Node.{Node}

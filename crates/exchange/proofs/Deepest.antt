@@ -1,7 +1,7 @@
 -- The largest depth so far.
-use Rattle.std.proofs.Common.{◌≡◌, ℕ, ◌+◌, ◌<◌, ◌≤◌, max, Bool, true, false, cond, ◌&&◌, eqb, leb, ◌⊎◌, List, length, Some, None, Option, sym, refl, ap, ◌∙◌, subst, ap₂, inl, inr, arith, below_more, eq-eqb, eqb-true, leb-false, leb-true}
+use Rattle.std.proofs.Common.{◌≡◌, ℕ, ◌+◌, ◌<◌, ◌≤◌, max, Bool, true, false, cond, ◌&&◌, eqb, leb, ◌⊎◌, List, length, None, Option, sym, refl, ap, ◌∙◌, ap₂, inl, inr, arith, below_more, eq-eqb, eqb-true, leb-false, leb-true}
 use Rattle.std.proofs.lemmas.Bool.{and_parts}
-use Rattle.places.specs.Places.{at, used, parent_at}
+use Rattle.places.specs.Places.{used, parent_at}
 use Rattle.places.specs.Shape.{top_from, depth_from}
 use Rattle.places.specs.declared.node.Node.{Node}
 use Rattle.exchange.specs.Heights.{depth_in, Height}

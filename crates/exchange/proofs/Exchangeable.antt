@@ -1,5 +1,5 @@
 -- A whole exchange, links and marks, keeps the places sound.
-use Rattle.std.proofs.Common.{◌≡◌, ℕ, zero, suc, ◌+◌, ◌<◌, ◌≤◌, Bool, true, false, ◌&&◌, ◌||◌, eqb, ◌⊎◌, List, [], ◌∷◌, length, is_some, Some, None, Option, sym, refl, ap, ◌∙◌, subst, inl, inr, arith, eqb-true}
+use Rattle.std.proofs.Common.{◌≡◌, ℕ, zero, suc, ◌+◌, ◌<◌, ◌≤◌, true, false, eqb, ◌⊎◌, List, [], ◌∷◌, length, is_some, Some, None, Option, sym, refl, ap, ◌∙◌, subst, inl, inr, arith, eqb-true}
 use Rattle.std.proofs.lemmas.Bool.{and_parts, or_cases}
 use Rattle.std.specs.List.{slice_get}
 use Rattle.grammar.specs.Model.{Grammar}
@@ -11,7 +11,7 @@ use Rattle.sheet.specs.Meaning.{Sound}
 use Rattle.tour.specs.Trees.{Instance}
 use Rattle.tour.specs.Nodes.{Table}
 use Rattle.tour.specs.Nodes.{attributes_at_lem}
-use Rattle.places.specs.Places.{at, used, parent_at, attributes, table}
+use Rattle.places.specs.Places.{used, parent_at, attributes, table}
 use Rattle.places.specs.Shape.{top_from, depth_from, SoundPlaces}
 use Rattle.places.specs.declared.node.Node.{Node}
 use Rattle.places.specs.declared.node.Parent.{Parent}
@@ -26,7 +26,7 @@ use Rattle.exchange.proofs.Hanging.{hung_used}
 use Rattle.exchange.proofs.Keeping.{woke_sound}
 use Rattle.exchange.proofs.Marking.{remarked_used, remarked_parent}
 use Rattle.exchange.proofs.Planting.{hung_sound, hung_used_is, other}
-use Rattle.exchange.proofs.Soundness.{Hangs, hangs}
+use Rattle.exchange.proofs.Soundness.{hangs}
 use Rattle.exchange.proofs.Swapping.{hung_other, hung_target, hung_held}
 
 flows_within : (f : Flow) (xs : List Attribute) (a : ℕ) → flows f (slice_get xs a) ≡ true → a < length xs

@@ -1,7 +1,7 @@
 -- What becomes owed exists.
-use Rattle.std.proofs.Common.{◌≡◌, ℕ, zero, suc, ◌<◌, ◌≤◌, Bool, true, false, ◌&&◌, ◌||◌, eqb, ◌⊎◌, List, [], ◌∷◌, length, get_or, is_some, Some, None, Option, sym, refl, ap, ◌∙◌, subst, ap₂, inl, inr, arith, eqb-true}
+use Rattle.std.proofs.Common.{◌≡◌, ℕ, zero, suc, ◌<◌, ◌≤◌, Bool, true, false, ◌||◌, eqb, List, [], ◌∷◌, length, get_or, is_some, Some, None, Option, sym, refl, ap, ◌∙◌, subst, inl, inr, arith, eqb-true}
 use Rattle.std.proofs.lemmas.Bool.{and_parts}
-use Rattle.grammar.specs.Model.{Equation, Rule, Grammar}
+use Rattle.grammar.specs.Model.{Grammar}
 use Rattle.grammar.specs.Tests.{some}
 use Rattle.grammar.specs.declared.terms.Flow.{Flow}
 use Rattle.grammar.specs.declared.terms.Flow.TheVariants.{Inherited, Synthesized}
@@ -9,13 +9,12 @@ use Rattle.sheet.specs.Meaning.{Sound, SoundEquation, scope_of_rule}
 use Rattle.tour.specs.Rules.{rule, symbol, occurs}
 use Rattle.tour.specs.Runs.{In}
 use Rattle.tour.specs.Trees.{Instance, at_of}
-use Rattle.tour.specs.Nodes.{Link, Table}
+use Rattle.tour.specs.Nodes.{Link}
 use Rattle.tour.specs.Nodes.Link.{top, under}
 use Rattle.tour.specs.Nodes.{flow_of}
-use Rattle.places.specs.Places.{at, used, parent_in, parent_at, link_of, arity, attributes, cell_of, table}
-use Rattle.places.specs.Shape.{ChildThere, SoundNode, SoundPlaces}
+use Rattle.places.specs.Places.{at, used, parent_at, arity, attributes, cell_of, table}
+use Rattle.places.specs.Shape.{ChildThere, SoundPlaces}
 use Rattle.places.specs.declared.node.Node.{Node}
-use Rattle.places.specs.declared.node.Parent.{Parent}
 use Rattle.exchange.specs.Takers.{takes_from, wakes, takers_among, takers_at, takers_above, takers_in, takers_of}
 use Rattle.exchange.specs.Waking.{Woke, is_at}
 use Rattle.exchange.specs.declared.taken.Taken.{Taken}
@@ -23,8 +22,8 @@ use Rattle.exchange.specs.declared.taken.Taken.TheVariants.{Attribute}
 use Rattle.exchange.proofs.Awake.{all_in, link_parent}
 use Rattle.exchange.proofs.Blocks.{node_there}
 use Rattle.exchange.proofs.Keeping.{woke_sound}
-use Rattle.exchange.proofs.Sheets.{Standing, defined_standing, rule_sound}
-use Rattle.exchange.proofs.Soundness.{Hangs, hangs}
+use Rattle.exchange.proofs.Sheets.{defined_standing, rule_sound}
+use Rattle.exchange.proofs.Soundness.{hangs}
 use Rattle.exchange.proofs.Swapping.{link_is}
 use Rattle.exchange.proofs.Targets.{kids_at}
 

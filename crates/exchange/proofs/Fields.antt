@@ -1,5 +1,5 @@
 -- What a written field leaves.
-use Rattle.std.proofs.Common.{◌≡◌, ℕ, ◌<◌, ◌≤◌, Bool, true, false, eqb, ltb, List, length, set, is_some, Some, None, Option, sym, refl, ap, ◌∙◌, subst, get_or-set_other, get_or-set_same, ltb-false, ltb-true, eqb-true}
+use Rattle.std.proofs.Common.{◌≡◌, ℕ, ◌≤◌, Bool, true, false, eqb, ltb, List, length, set, None, Option, sym, refl, ap, ◌∙◌, subst, get_or-set_other, get_or-set_same, ltb-false, ltb-true, eqb-true}
 use lib.Seq.{set-get_or}
 use borrow.Author.Tests.{eqb-false}
 use Rattle.std.proofs.lemmas.List.{get_or_past, length-set, set_past}

@@ -1,5 +1,5 @@
 -- The places while a held root is hung in.
-use Rattle.std.proofs.Common.{◌≡◌, ℕ, ◌-◌, ◌<◌, ◌≤◌, Bool, true, false, ◌||◌, eqb, ltb, List, length, get_or, set, is_some, Some, None, Option, sym, refl, ap, ◌∙◌, subst, arith, get_or-set_other, get_or-set_same, ltb-false, ltb-true, eqb-true}
+use Rattle.std.proofs.Common.{◌≡◌, ℕ, ◌-◌, ◌<◌, Bool, true, false, ◌||◌, eqb, ltb, List, length, get_or, set, is_some, Some, None, Option, sym, refl, ap, ◌∙◌, subst, arith, get_or-set_other, get_or-set_same, ltb-false, ltb-true, eqb-true}
 use borrow.Author.Tests.{eqb-false}
 use Rattle.std.specs.Option.{option_map}
 use Rattle.std.proofs.lemmas.List.{set_past}
@@ -7,14 +7,12 @@ use Rattle.grammar.specs.Model.{Grammar}
 use Rattle.tour.specs.Rules.{rule}
 use Rattle.tour.specs.Trees.{Instance, at_of}
 use Rattle.places.specs.Places.{at, used, parent_at, arity, table}
-use Rattle.places.specs.Shape.{ParentThere, HangsBelow, SoundNode, SoundPlaces}
 use Rattle.places.specs.declared.node.Node.{Node}
 use Rattle.places.specs.declared.node.Parent.{Parent}
-use Rattle.exchange.specs.Exchanging.{hung_below, hung, inherited_at, woken_below, ExchangedPlaces}
-use Rattle.exchange.specs.Setting.{with_child, with_parent, with_marks, changed_at}
-use Rattle.exchange.specs.Takers.{Fits, FitsThere, FitsAt, takers_among, takers_at}
+use Rattle.exchange.specs.Exchanging.{hung_below, inherited_at, woken_below, ExchangedPlaces}
+use Rattle.exchange.specs.Setting.{with_child, with_parent, changed_at}
+use Rattle.exchange.specs.Takers.{FitsThere, FitsAt, takers_among, takers_at}
 use Rattle.exchange.specs.Waking.{bare, Remarked, Woke}
-use Rattle.exchange.specs.declared.taken.Taken.{Taken}
 use Rattle.exchange.specs.declared.taken.Taken.TheVariants.{Occurrence}
 use Rattle.exchange.proofs.Fields.{changed_length, changed_keeps}
 use Rattle.exchange.proofs.Marking.{remarked_table, woke_more}

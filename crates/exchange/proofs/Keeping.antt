@@ -1,20 +1,19 @@
 -- Which changes keep places sound.
-use Rattle.std.proofs.Common.{◌≡◌, ℕ, zero, suc, ◌+◌, ◌-◌, ◌*◌, ◌/◌, ◌%◌, ◌^◌, ◌<◌, ◌≤◌, Bool, true, false, not, ◌&&◌, ◌||◌, eqb, List, length, get_or, is_some, Some, None, Option, sym, refl, ap, ◌∙◌, subst, ap₂, mod-lt, pow-suc, arith, eqb-true}
+use Rattle.std.proofs.Common.{◌≡◌, ℕ, zero, suc, ◌/◌, ◌%◌, ◌^◌, ◌<◌, ◌≤◌, Bool, true, false, not, ◌&&◌, ◌||◌, List, length, get_or, is_some, Some, None, Option, sym, refl, ap, ◌∙◌, subst, ap₂, mod-lt, pow-suc, arith}
 use borrow.Author.Tests.{eqb-false}
-use Rattle.std.specs.Option.{option_map}
 use Rattle.grammar.specs.Model.{Grammar}
 use Rattle.tour.specs.Rules.{rule}
 use Rattle.tour.specs.Trees.{Instance}
 use Rattle.places.specs.Marks.{owes}
 use Rattle.places.specs.Places.{at, used, parent_in, parent_at, marks_in, owed_at, arity, attributes, cell_of, table}
-use Rattle.places.specs.Shape.{climbs, top_from, depth_from, ChildThere, ParentThere, HangsBelow, SoundNode, SoundPlaces}
+use Rattle.places.specs.Shape.{climbs, top_from, ChildThere, ParentThere, HangsBelow, SoundNode, SoundPlaces}
 use Rattle.places.specs.declared.node.Node.{Node}
 use Rattle.places.specs.declared.node.Parent.{Parent}
 use Rattle.places.proofs.Digits.{owes_high}
 use Rattle.exchange.specs.Freeing.{Freed}
 use Rattle.exchange.specs.Setting.{with_marks}
 use Rattle.exchange.specs.Waking.{bare, Remarked, Woke, Slept}
-use Rattle.exchange.proofs.Climbing.{climbs_top, climbs_up, up, Up}
+use Rattle.exchange.proofs.Climbing.{climbs_top, climbs_up, up}
 use Rattle.exchange.proofs.Marking.{remarked_parent}
 use Rattle.exchange.proofs.Soundness.{parent_node}
 use Rattle.exchange.proofs.Swapping.{child_hangs}

@@ -1,5 +1,5 @@
 -- An exchange keeps the places sound, if no path grows too long.
-use Rattle.std.proofs.Common.{◌≡◌, ℕ, zero, suc, ◌+◌, ◌-◌, ◌^◌, ◌<◌, ◌≤◌, Bool, true, false, cond, ◌&&◌, ◌||◌, eqb, List, length, get_or, set, is_some, Some, None, Option, sym, refl, ap, ◌∙◌, subst, ap₂, arith, eq-eqb, ne_eqb, eqb-true}
+use Rattle.std.proofs.Common.{◌≡◌, ℕ, zero, suc, ◌+◌, ◌-◌, ◌^◌, ◌<◌, ◌≤◌, Bool, true, false, cond, eqb, List, length, get_or, is_some, Some, None, Option, sym, refl, ap, ◌∙◌, subst, arith, eq-eqb, ne_eqb, eqb-true}
 use borrow.Author.Tests.{eqb-false}
 use Rattle.std.proofs.lemmas.List.{length-set, get_or-map}
 use Rattle.std.specs.Option.{option_map}
@@ -8,17 +8,17 @@ use Rattle.sheet.specs.Meaning.{Sound}
 use Rattle.tour.specs.Rules.{rule}
 use Rattle.tour.specs.Exchange.{swap, Exchanged}
 use Rattle.places.specs.Places.{at, used, parent_in, parent_at, marks_in, arity, attributes, cell_of, table}
-use Rattle.places.specs.Shape.{climbs, top_from, depth_from, ChildThere, ChildOf, ParentOf, ParentThere, HangsBelow, SoundNode, SoundPlaces}
+use Rattle.places.specs.Shape.{climbs, top_from, depth_from, ChildThere, ParentThere, HangsBelow, SoundNode, SoundPlaces}
 use Rattle.places.specs.declared.node.Node.{Node}
 use Rattle.places.specs.declared.node.Parent.{Parent}
 use Rattle.exchange.specs.Exchanging.{hung_below, Exchangeable}
 use Rattle.exchange.specs.Setting.{with_child, with_parent, changed_at}
 use Rattle.exchange.proofs.Blocks.{node_there}
-use Rattle.exchange.proofs.Climbing.{climbs_top, climbs_up, top_top, depth_top, depth_up, more, More, up, Up}
-use Rattle.exchange.proofs.Fields.{changed_keeps, changed_length}
-use Rattle.exchange.proofs.Hanging.{hung_used, hung_length}
+use Rattle.exchange.proofs.Climbing.{climbs_top, climbs_up, top_top, depth_top, depth_up, more, up}
+use Rattle.exchange.proofs.Fields.{changed_keeps}
+use Rattle.exchange.proofs.Hanging.{hung_length}
 use Rattle.exchange.proofs.Soundness.{parent_node, Hangs, hangs}
-use Rattle.exchange.proofs.Swapping.{keeps, hung_rule, hung_other, hung_target, hung_held, hung_exchanged, child_hangs, only_child}
+use Rattle.exchange.proofs.Swapping.{keeps, hung_rule, hung_other, hung_target, hung_held, hung_exchanged, child_hangs}
 use Rattle.exchange.proofs.Targets.{kids_at, kids_length}
 
 -- climbing as far as a place is deep is enough, and further does no harm

@@ -1,11 +1,11 @@
 -- What sound places give at one node.
-use Rattle.std.proofs.Common.{◌≡◌, ℕ, ◌<◌, ◌≤◌, Bool, true, false, List, length, get_or, is_some, Some, None, Option, sym, refl, ap, ◌∙◌, subst, arith}
+use Rattle.std.proofs.Common.{◌≡◌, ℕ, ◌≤◌, true, List, get_or, is_some, Some, None, Option, refl, subst, arith}
 use Rattle.grammar.specs.Model.{Grammar}
 use Rattle.sheet.specs.Answers.{grammar_of}
 use Rattle.sheet.specs.declared.kept.Sheet.{Sheet}
 use Rattle.tour.specs.Rules.{rule}
-use Rattle.places.specs.Places.{at, used, parent_in, parent_at, arity}
-use Rattle.places.specs.Shape.{ChildThere, ParentOf, ParentThere, HangsBelow, SoundNode, SoundPlaces}
+use Rattle.places.specs.Places.{at, used, parent_in, parent_at}
+use Rattle.places.specs.Shape.{ChildThere, ParentOf, ParentThere, HangsBelow, SoundPlaces}
 use Rattle.places.specs.declared.node.Node.{Node}
 use Rattle.places.specs.declared.node.Parent.{Parent}
 use Rattle.exchange.specs.Takers.{Fits, FitsThere, FitsAt}

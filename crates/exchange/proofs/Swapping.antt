@@ -1,27 +1,22 @@
 -- The exchange in the table of places is the exchange of the theory of tours.
-use Rattle.std.proofs.Common.{◌≡◌, ℕ, suc, ◌-◌, ◌<◌, ◌≤◌, Bool, true, false, cond, eqb, List, [], map, length, get_or, set, is_some, Some, None, Option, sym, refl, ap, ◌∙◌, subst, ap₂, arith, get_or-set_other, get_or-set_same, eq-eqb, ne_eqb, eqb-true}
+use Rattle.std.proofs.Common.{◌≡◌, ℕ, suc, ◌-◌, ◌<◌, Bool, true, false, cond, eqb, List, map, length, get_or, set, is_some, Some, None, Option, sym, refl, ap, ◌∙◌, ap₂, arith, get_or-set_other, get_or-set_same, eq-eqb, ne_eqb, eqb-true}
 use borrow.Author.Tests.{eqb-false}
 use Rattle.std.specs.Option.{option_map}
-use Rattle.std.proofs.lemmas.List.{ext_get_or, length-map, get_or-map, length-set}
+use Rattle.std.proofs.lemmas.List.{ext_get_or, length-map, get_or-map}
 use Rattle.grammar.specs.Model.{Grammar}
 use Rattle.sheet.specs.Meaning.{Sound}
 use Rattle.tour.specs.Rules.{rule}
-use Rattle.tour.specs.Nodes.{Link, Cell, Table}
-use Rattle.tour.specs.Nodes.Link.{top, under}
 use Rattle.tour.specs.Exchange.{swap, Exchanged}
-use Rattle.places.specs.Places.{at, used, parent_in, parent_at, link_of, arity, firsts, cell_of, table}
-use Rattle.places.specs.Shape.{ChildThere, ChildOf, SoundNode, SoundPlaces}
+use Rattle.places.specs.Places.{at, used, parent_in, parent_at, link_of, arity, cell_of, table}
+use Rattle.places.specs.Shape.{ChildThere, SoundPlaces}
 use Rattle.places.specs.declared.node.Node.{Node}
 use Rattle.places.specs.declared.node.Parent.{Parent}
-use Rattle.exchange.specs.Exchanging.{hung_below, hung, woken_below, ExchangedPlaces}
+use Rattle.exchange.specs.Exchanging.{hung_below}
 use Rattle.exchange.specs.Setting.{with_child, with_parent, changed_at}
-use Rattle.exchange.specs.Waking.{Remarked, Woke}
-use Rattle.exchange.proofs.Fields.{changed_here, changed_else, changed_keeps, changed_length}
-use Rattle.exchange.proofs.Marking.{remarked_table}
+use Rattle.exchange.proofs.Fields.{changed_here, changed_else, changed_keeps}
 use Rattle.exchange.proofs.Sheets.{rule_sound}
-use Rattle.exchange.proofs.Soundness.{Hangs, hangs}
-use Rattle.exchange.proofs.Targets.{firsts_at, length_firsts, kids_length, kids_at}
-use Rattle.exchange.proofs.Blocks.{node_there}
+use Rattle.exchange.proofs.Soundness.{hangs}
+use Rattle.exchange.proofs.Targets.{length_firsts, kids_length, kids_at}
 
 -- a change that keeps what is looked at
 pub keeps : {X : Type 0} (look : Option Node → X) (f : Node → Node) → ((x : Option Node) → look (option_map f x) ≡ look x) → (ps : List (Option Node)) (p q : ℕ) → look (at (changed_at f ps p) q) ≡ look (at ps q)

@@ -1,12 +1,11 @@
 -- The targets of a rule's equations at a node.
-use Rattle.std.proofs.Common.{◌≡◌, ℕ, zero, suc, ◌+◌, ◌<◌, ◌≤◌, Bool, true, false, ◌&&◌, ◌||◌, ltb, List, [], ◌∷◌, map, length, get_or, take, drop, is_some, Some, None, Option, sym, refl, ap, ◌∙◌, subst, one-add, arith, get_or-drop, ltb-false, ltb-true}
+use Rattle.std.proofs.Common.{◌≡◌, ℕ, zero, suc, ◌+◌, ◌<◌, ◌≤◌, Bool, true, false, ◌&&◌, ◌||◌, ltb, List, map, length, get_or, take, drop, is_some, Some, None, Option, sym, refl, ap, ◌∙◌, subst, one-add, arith, get_or-drop, ltb-false, ltb-true}
 use Rattle.std.specs.Option.{option_map}
 use Rattle.std.specs.List.{slice_get}
 use Rattle.std.proofs.lemmas.Option.{slice_get-get_or}
 use Rattle.std.proofs.lemmas.List.{get_or-map, get_or_past, length-map, take_all}
-use Rattle.grammar.specs.Model.{Equation, Rule, Grammar}
+use Rattle.grammar.specs.Model.{Equation, Grammar}
 use Rattle.grammar.specs.Rows.{equation_of}
-use Rattle.grammar.specs.Scopes.{defined_flow}
 use Rattle.grammar.specs.Tests.{some}
 use Rattle.grammar.specs.declared.rows.EquationRow.{EquationRow}
 use Rattle.plans.specs.declared.Group.{Group}
@@ -19,7 +18,7 @@ use Rattle.places.specs.declared.node.Node.{Node}
 use Rattle.exchange.specs.Takers.{Fits, FitsThere, FitsAt, takes_from, wakes, takers_among, takers_at}
 use Rattle.exchange.specs.Waking.{is_at}
 use Rattle.exchange.specs.declared.taken.Taken.{Taken}
-use Rattle.exchange.proofs.Sheets.{Standing, equation_sound, rule_sound, few_attributes, defined_standing, nth_is}
+use Rattle.exchange.proofs.Sheets.{equation_sound, rule_sound, few_attributes, defined_standing, nth_is}
 use Rattle.exchange.proofs.Somes.{some_more}
 
 -- a used place is in the table

@@ -1,5 +1,5 @@
 -- How deep a block is.
-use Rattle.std.specs.Prelude.{◌≡◌, ℕ, ◌≤◌, Bool, true, cond, ◌&&◌, List, Option, ◌==◌}
+use Rattle.std.specs.Prelude.{◌≡◌, ℕ, ◌≤◌, true, cond, ◌&&◌, List, Option, ◌==◌}
 use Rattle.places.specs.Places.{used}
 use Rattle.places.specs.Shape.{top_from, depth_from}
 use Rattle.places.specs.declared.node.Node.{Node}

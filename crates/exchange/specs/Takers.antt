@@ -1,5 +1,5 @@
 -- Which instances take their arguments from where.
-use Rattle.std.specs.Prelude.{◌≡◌, ℕ, ◌<◌, Bool, true, false, ◌&&◌, List, [], length, Some, None, Decides, Option, ◌==◌, slice_index}
+use Rattle.std.specs.Prelude.{◌≡◌, ℕ, ◌<◌, Bool, true, false, ◌&&◌, List, length, Some, None, Decides, Option, ◌==◌, slice_index}
 use Rattle.grammar.specs.Model.{Equation, Grammar}
 use Rattle.grammar.specs.Tests.{some}
 use Rattle.grammar.specs.declared.terms.Argument.{Argument}

@@ -1,4 +1,4 @@
-use Rattle.std.proofs.Common.{◌≡◌, ◌≤◌, length, Some, sym, ap, arith, rules}
+use Rattle.std.proofs.Common.{◌≡◌, length, Some, ap, arith, rules}
 use Rattle.std.specs.Option.{option_map}
 use Rattle.std.specs.List.{slice_get}
 use Rattle.sheet.specs.Answers.{grammar_of, group_rule}

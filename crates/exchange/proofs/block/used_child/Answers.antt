@@ -9,8 +9,8 @@ bounds-places-from c =
     let h = used_within c.args.places.now c.args.p (fits_used (grammar_of c.args.sheet.now) c.args.places.now c.args.p c.requires) in
     omega arith
 
-pub offset-bounds-node-k : goal.offset-bounds-node-k
-offset-bounds-node-k c = let h = c.arity-k-end.ensures.few in omega arith
+pub offset_bounds-node-k : goal.offset_bounds-node-k
+offset_bounds-node-k c = let h = c.arity-k-end.ensures.few in omega arith
 
 pub bounds-node-k : goal.bounds-node-k
 bounds-node-k c = let h = c.arity-k-end.ensures.few in omega arith

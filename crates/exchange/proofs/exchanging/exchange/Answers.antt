@@ -1,7 +1,6 @@
-use Rattle.std.proofs.Common.{◌≡◌, is_some, Some, sym, ap, ◌∙◌, subst, arith, rules}
+use Rattle.std.proofs.Common.{◌≡◌, is_some, Some, sym, ap, ◌∙◌, subst, rules}
 use Rattle.sheet.specs.Answers.{grammar_of}
 use Rattle.places.specs.Places.{at, parent_at}
-use Rattle.exchange.specs.Exchanging.{hung_below}
 use Rattle.exchange.proofs.Hanging.{EveryFits, hung_fits, hung_used, remarked_fits, exchanged}
 use Rattle.exchange.proofs.Marking.{remarked_used}
 use Rattle.exchange.proofs.Soundness.{sound_fits_at, hangs, position_few}

@@ -1,4 +1,4 @@
-use Rattle.std.proofs.Common.{ℕ, sym, ap, ◌∙◌}
+use Rattle.std.proofs.Common.{sym, ap, ◌∙◌}
 use Rattle.places.specs.Places.{at}
 use Rattle.exchange.specs.Setting.{with_parent}
 use Rattle.exchange.proofs.Fields.{unchanged}

@@ -1,4 +1,4 @@
-use Rattle.std.proofs.Common.{sym, ap, ◌∙◌}
+use Rattle.std.proofs.Common.{sym, ◌∙◌}
 use Rattle.exchange.specs.Takers.{takes_from}
 use Rattle.exchange.proofs.Somes.{some_here, some_on, some_done}
 use Rattle.exchange.proofs.takers.takes.Goals as goal
