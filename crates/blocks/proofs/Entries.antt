@@ -7,7 +7,7 @@ use Rattle.grammar.specs.Model.{Grammar}
 use Rattle.sheet.specs.Meaning.{Sound, SoundSymbol}
 use Rattle.tour.specs.Runs.{In}
 use Rattle.tour.specs.Rules.{rule, no_symbol}
-use Rattle.tour.specs.Trees.{Instance, Forest, all_places_lem, row, instances}
+use Rattle.tour.specs.Trees.{Instance, Forest, places_in, row, instances}
 use Rattle.tour.specs.Trees.Forest.{none, node}
 use Rattle.tour.specs.Blocks.{pieces}
 use Rattle.tour.proofs.Lists.{in_left, in_right, in_cases}
@@ -34,14 +34,14 @@ module _ (g : Grammar) where
   rows_append (b ∷ bs) cs [] qs e = absurd (omega arith)
   rows_append (b ∷ bs) cs (p ∷ ps) qs e = ap (λ z. row p 0 (attributes g b.0) ++ z) (rows_append bs cs ps qs (omega arith)) ∙ sym (append_assoc (row p 0 (attributes g b.0)) (rows bs ps) (rows cs qs))
 
-  as_many : (f : Forest) → length (pieces f) ≡ length (all_places_lem f)
+  as_many : (f : Forest) → length (pieces f) ≡ length (places_in f)
   as_many none = refl
-  as_many (node p r c kids rest) = ap suc (length-append (pieces kids) (pieces rest) ∙ ap₂ (λ a b. a + b) (as_many kids) (as_many rest) ∙ sym (length-append (all_places_lem kids) (all_places_lem rest)))
+  as_many (node p r c kids rest) = ap suc (length-append (pieces kids) (pieces rest) ∙ ap₂ (λ a b. a + b) (as_many kids) (as_many rest) ∙ sym (length-append (places_in kids) (places_in rest)))
 
-  instances_rows : (f : Forest) → instances g f ≡ rows (pieces f) (all_places_lem f)
+  instances_rows : (f : Forest) → instances g f ≡ rows (pieces f) (places_in f)
   instances_rows none = refl
   instances_rows (node p r c kids rest) =
-      ap (λ z. row p 0 (attributes g r) ++ z) (ap₂ (λ a b. a ++ b) (instances_rows kids) (instances_rows rest) ∙ sym (rows_append (pieces kids) (pieces rest) (all_places_lem kids) (all_places_lem rest) (as_many kids)))
+      ap (λ z. row p 0 (attributes g r) ++ z) (ap₂ (λ a b. a ++ b) (instances_rows kids) (instances_rows rest) ∙ sym (rows_append (pieces kids) (pieces rest) (places_in kids) (places_in rest) (as_many kids)))
 
   row_in : (p i n a : ℕ) → i ≤ a → a < i + n → In (p, a) (row p i n)
   row_in p i zero a l m = absurd (omega arith)

@@ -3,7 +3,7 @@ use Rattle.std.proofs.Common.{◌≡◌, ℕ, ◌≤◌, Bool, true, false, ◌&
 use Rattle.std.proofs.lemmas.List.{length-replicate}
 use Rattle.std.proofs.lemmas.Bool.{and_parts, and_from, leb-true, le-leb}
 use Rattle.grammar.specs.Model.{Grammar}
-use Rattle.tour.specs.Trees.{all_places_lem}
+use Rattle.tour.specs.Trees.{places_in}
 use Rattle.tour.specs.Blocks.{pieces, reads}
 use Rattle.tour.proofs.Blocks.{reads_means, means_reads}
 use Rattle.blocks.specs.Block.{pairs, deepest, symbol_or, if_not, tree_fault, block_fault}
@@ -49,7 +49,7 @@ is_block g x bs h =
 no_fault : (g : Grammar) (first : Option ℕ) (bs : List Piece) → IsBlock g (symbol_or g first bs) bs → block_fault g first bs ≡ None
 no_fault g first bs h =
     let x = symbol_or g first bs in
-    let r : reads g (x ∷ []) (pairs bs) ≡ true = means_reads g (x ∷ []) (pairs bs) (all_places_lem h.tree) h.tree (record { agrees = h.agrees; block = h.block; at = refl }) in
+    let r : reads g (x ∷ []) (pairs bs) ≡ true = means_reads g (x ∷ []) (pairs bs) (places_in h.tree) h.tree (record { agrees = h.agrees; block = h.block; at = refl }) in
     let d : deepest g (1 ∷ []) (pairs bs) ≤ 64 =
     subst (λ z. deepest g (1 ∷ []) z ≤ 64) (append-nil (pieces h.tree) ∙ h.block) (no_deeper g h.tree (x ∷ []) 1 64 64 [] [] refl h.agrees h.shallow (omega arith)) in
     let l : (leb 1 (length bs) && leb (length bs) 1024) ≡ true = and_from (leb 1 (length bs)) (leb (length bs) 1024) (le-leb 1 (length bs) h.some_piece) (le-leb (length bs) 1024 h.few_pieces) in

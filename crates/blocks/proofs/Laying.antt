@@ -4,7 +4,7 @@ use Rattle.std.proofs.lemmas.List.{length-set, get_or-set_same, get_or-set_other
 use Rattle.grammar.specs.Model.{Grammar}
 use Rattle.tour.specs.Runs.{In, Apart}
 use Rattle.tour.specs.Rules.{rule}
-use Rattle.tour.specs.Trees.{Instance, Forest, Agrees, places, all_places_lem, row, instances}
+use Rattle.tour.specs.Trees.{Instance, Forest, Agrees, places, places_in, row, instances}
 use Rattle.tour.specs.Trees.Forest.{none, node}
 use Rattle.tour.specs.Nodes.{Link, Shows, above}
 use Rattle.tour.specs.Nodes.Link.{under}
@@ -57,43 +57,43 @@ module _ (g : Grammar) where
       ∙ laid_length kids (first_below p) ps
 
   -- no other place is touched
-  pub laid_other : (f : Forest) (up : Option Parent) (ps : List (Option Node)) (p : ℕ) → (In p (all_places_lem f) → ⊥) → at (laid g f up ps) p ≡ at ps p
+  pub laid_other : (f : Forest) (up : Option Parent) (ps : List (Option Node)) (p : ℕ) → (In p (places_in f) → ⊥) → at (laid g f up ps) p ≡ at ps p
   laid_other none up ps p out = refl
   laid_other (node q r c kids rest) up ps p out =
-      laid_other rest (next_to up) (set (laid g kids (first_below q) ps) q (Some (fresh g r c up (places kids)))) p (λ h. out (inr (in_right p (all_places_lem kids) (all_places_lem rest) h)))
+      laid_other rest (next_to up) (set (laid g kids (first_below q) ps) q (Some (fresh g r c up (places kids)))) p (λ h. out (inr (in_right p (places_in kids) (places_in rest) h)))
       ∙ get_or-set_other (laid g kids (first_below q) ps) q p (Some (fresh g r c up (places kids))) None (λ e. out (inl e))
-      ∙ laid_other kids (first_below q) ps p (λ h. out (inr (in_left p (all_places_lem kids) (all_places_lem rest) h)))
+      ∙ laid_other kids (first_below q) ps p (λ h. out (inr (in_left p (places_in kids) (places_in rest) h)))
 
   -- each node of the trees stands in the table
   abbrev pub Stand : Forest → Option Parent → List (Option Node) → Type 0
   Stand none up ps = Unit {0}
   Stand (node p r c kids rest) up ps = (at ps p ≡ Some (fresh g r c up (places kids))) × Stand kids (first_below p) ps × Stand rest (next_to up) ps
 
-  stand_same : (f : Forest) (up : Option Parent) (ps ps' : List (Option Node)) → ((p : ℕ) → In p (all_places_lem f) → at ps' p ≡ at ps p) → Stand f up ps → Stand f up ps'
+  stand_same : (f : Forest) (up : Option Parent) (ps ps' : List (Option Node)) → ((p : ℕ) → In p (places_in f) → at ps' p ≡ at ps p) → Stand f up ps → Stand f up ps'
   stand_same none up ps ps' same h = tt
   stand_same (node p r c kids rest) up ps ps' same h = (
     same p (inl refl) ∙ h.0,
-    stand_same kids (first_below p) ps ps' (λ q k. same q (inr (in_left q (all_places_lem kids) (all_places_lem rest) k))) h.1,
-    stand_same rest (next_to up) ps ps' (λ q k. same q (inr (in_right q (all_places_lem kids) (all_places_lem rest) k))) h.2,
+    stand_same kids (first_below p) ps ps' (λ q k. same q (inr (in_left q (places_in kids) (places_in rest) k))) h.1,
+    stand_same rest (next_to up) ps ps' (λ q k. same q (inr (in_right q (places_in kids) (places_in rest) k))) h.2,
   )
 
-  pub laid_stand : (f : Forest) (up : Option Parent) (ps : List (Option Node)) → Apart (all_places_lem f) → ((p : ℕ) → In p (all_places_lem f) → p < length ps) → Stand f up (laid g f up ps)
+  pub laid_stand : (f : Forest) (up : Option Parent) (ps : List (Option Node)) → Apart (places_in f) → ((p : ℕ) → In p (places_in f) → p < length ps) → Stand f up (laid g f up ps)
   laid_stand none up ps apart inside = tt
   laid_stand (node p r c kids rest) up ps apart inside =
-      let parts = apart_parts (all_places_lem kids) (all_places_lem rest) apart.1 in
+      let parts = apart_parts (places_in kids) (places_in rest) apart.1 in
       let ps₁ = laid g kids (first_below p) ps in
       let n = fresh g r c up (places kids) in
       let ps₂ = set ps₁ p (Some n) in
       let here : p < length ps₁ = subst (λ m. p < m) (sym (laid_length kids (first_below p) ps)) (inside p (inl refl)) in
-      let not-rest : In p (all_places_lem rest) → ⊥ = λ h. apart.0 (in_right p (all_places_lem kids) (all_places_lem rest) h) in
+      let not-rest : In p (places_in rest) → ⊥ = λ h. apart.0 (in_right p (places_in kids) (places_in rest) h) in
       let long : length ps ≡ length ps₂ = sym (length-set ps₁ p (Some n) ∙ laid_length kids (first_below p) ps) in (
         laid_other rest (next_to up) ps₂ p not-rest ∙ get_or-set_same ps₁ p (Some n) None here,
         stand_same kids (first_below p) ps₁ (laid g rest (next_to up) ps₂)
             (λ q k.
             laid_other rest (next_to up) ps₂ q (parts.2 q k)
-            ∙ get_or-set_other ps₁ p q (Some n) None (λ e. apart.0 (in_left p (all_places_lem kids) (all_places_lem rest) (subst (λ z. In z (all_places_lem kids)) e k))))
-            (laid_stand kids (first_below p) ps parts.0 (λ q k. inside q (inr (in_left q (all_places_lem kids) (all_places_lem rest) k)))),
-        laid_stand rest (next_to up) ps₂ parts.1 (λ q k. subst (λ m. q < m) long (inside q (inr (in_right q (all_places_lem kids) (all_places_lem rest) k)))),
+            ∙ get_or-set_other ps₁ p q (Some n) None (λ e. apart.0 (in_left p (places_in kids) (places_in rest) (subst (λ z. In z (places_in kids)) e k))))
+            (laid_stand kids (first_below p) ps parts.0 (λ q k. inside q (inr (in_left q (places_in kids) (places_in rest) k)))),
+        laid_stand rest (next_to up) ps₂ parts.1 (λ q k. subst (λ m. q < m) long (inside q (inr (in_right q (places_in kids) (places_in rest) k)))),
       )
 
   pub agrees_many : (f : Forest) (xs : List ℕ) → Agrees g f xs → length (places f) ≡ length xs

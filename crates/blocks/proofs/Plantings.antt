@@ -3,7 +3,7 @@ use Rattle.std.proofs.Common.{◌≡◌, ℕ, ◌+◌, ◌-◌, ◌^◌, ◌<◌
 use Rattle.std.proofs.lemmas.List.{drop-set-lt, drop-drop}
 use Rattle.grammar.specs.Model.{Grammar}
 use Rattle.tour.specs.Rules.{rule}
-use Rattle.tour.specs.Trees.{Forest, Agrees, places, all_places_lem}
+use Rattle.tour.specs.Trees.{Forest, Agrees, places, places_in}
 use Rattle.tour.specs.Trees.Forest.{none, node}
 use Rattle.tour.specs.Blocks.{pieces}
 use Rattle.tour.proofs.Lists.{head_same, tail_same}
@@ -39,7 +39,7 @@ module _ (g : Grammar) where
     pub symbols : List ℕ
     pub is : f ≡ node q b.rule b.datum kids others
     pub known : b.rule < length g.rules
-    pub first : Fits g (length (rule g b.rule).right) rest (q + 1) ps kids (rule g b.rule).right (pieces others ++ cs) (all_places_lem others ++ qs)
+    pub first : Fits g (length (rule g b.rule).right) rest (q + 1) ps kids (rule g b.rule).right (pieces others ++ cs) (places_in others ++ qs)
     pub agrees : Agrees g others symbols
     pub many : length symbols ≡ count - 1
 
@@ -54,9 +54,9 @@ module _ (g : Grammar) where
       let er : r ≡ b.rule = sym (ap (λ z. z.0) k₀) in
       let ec : c ≡ b.datum = sym (ap (λ z. z.1) k₀) in
       let kt = tail_same (pair_of b) (r, c) (pairs rest) ((pieces kids ++ pieces others) ++ cs) k in
-      let m : q ∷ free_after (q + 1) ps ≡ p ∷ ((all_places_lem kids ++ all_places_lem others) ++ qs) = sym a ∙ h.at in
-      let ep : p ≡ q = sym (head_same q p (free_after (q + 1) ps) ((all_places_lem kids ++ all_places_lem others) ++ qs) m) in
-      let mt = tail_same q p (free_after (q + 1) ps) ((all_places_lem kids ++ all_places_lem others) ++ qs) m in
+      let m : q ∷ free_after (q + 1) ps ≡ p ∷ ((places_in kids ++ places_in others) ++ qs) = sym a ∙ h.at in
+      let ep : p ≡ q = sym (head_same q p (free_after (q + 1) ps) ((places_in kids ++ places_in others) ++ qs) m) in
+      let mt = tail_same q p (free_after (q + 1) ps) ((places_in kids ++ places_in others) ++ qs) m in
       record {
         kids = kids;
         others = others;
@@ -67,7 +67,7 @@ module _ (g : Grammar) where
           agrees = subst (λ z. Agrees g kids (rule g z).right) er h.agrees.2;
           many = refl;
           block = kt ∙ append_assoc (pieces kids) (pieces others) cs;
-          at = mt ∙ append_assoc (all_places_lem kids) (all_places_lem others) qs;
+          at = mt ∙ append_assoc (places_in kids) (places_in others) qs;
         };
         agrees = h.agrees.3;
         many = omega (arith, h.many);
@@ -104,7 +104,7 @@ module _ (g : Grammar) where
     pub no_planting_below : NoPlanting g (length right) rest (q + 1) ps → NoPlanting g count bs i ps
     no_planting_below none-fit f xs cs qs h =
         let w = part b bs rest q count i ps f xs cs qs some front found h in
-        none-fit w.kids (rule g b.rule).right (pieces w.others ++ cs) (all_places_lem w.others ++ qs) (subst (λ z. Fits g (length z) rest (q + 1) ps w.kids (rule g b.rule).right (pieces w.others ++ cs) (all_places_lem w.others ++ qs)) known.right_is w.first)
+        none-fit w.kids (rule g b.rule).right (pieces w.others ++ cs) (places_in w.others ++ qs) (subst (λ z. Fits g (length z) rest (q + 1) ps w.kids (rule g b.rule).right (pieces w.others ++ cs) (places_in w.others ++ qs)) known.right_is w.first)
 
     module _ (up₁ : Option Parent) (v : Node) (hung : up₁ ≡ first_below q) (below : Planting g up₁ (length right) rest (q + 1) ps roots₁ rest₁ next₁ ps₁) (new : v ≡ written b up roots₁ (2 ^ n - 1)) where
       abbrev ps₂ : List (Option Node)
@@ -116,13 +116,13 @@ module _ (g : Grammar) where
       -- what fits the row, below the first node and beside it
       record Both (f : Forest) (cs : List (ℕ × ℕ)) (qs : List ℕ) : Type 0 where
         pub parts : Parted b rest q count ps f cs qs
-        pub under : Laid g up₁ ps parts.kids (pieces parts.others ++ cs) (all_places_lem parts.others ++ qs) roots₁ rest₁ next₁ ps₁
+        pub under : Laid g up₁ ps parts.kids (pieces parts.others ++ cs) (places_in parts.others ++ qs) roots₁ rest₁ next₁ ps₁
         pub beside : Fits g (count - 1) rest₁ next₁ ps₂ parts.others parts.symbols cs qs
 
       both : (f : Forest) (xs : List ℕ) (cs : List (ℕ × ℕ)) (qs : List ℕ) → Fits g count bs i ps f xs cs qs → Both f cs qs
       both f xs cs qs h =
           let w = part b bs rest q count i ps f xs cs qs some front found h in
-          let u = below.fits w.kids (rule g b.rule).right (pieces w.others ++ cs) (all_places_lem w.others ++ qs) (subst (λ z. Fits g (length z) rest (q + 1) ps w.kids (rule g b.rule).right (pieces w.others ++ cs) (all_places_lem w.others ++ qs)) known.right_is w.first) in
+          let u = below.fits w.kids (rule g b.rule).right (pieces w.others ++ cs) (places_in w.others ++ qs) (subst (λ z. Fits g (length z) rest (q + 1) ps w.kids (rule g b.rule).right (pieces w.others ++ cs) (places_in w.others ++ qs)) known.right_is w.first) in
           record {
             parts = w;
             under = u;

@@ -6,7 +6,7 @@ use Rattle.std.proofs.lemmas.List.{get_or-take, get_or_append_left, get_or_at, l
 use Rattle.grammar.specs.Model.{Grammar}
 use Rattle.tour.specs.Runs.{In, Apart}
 use Rattle.tour.specs.Rules.{rule}
-use Rattle.tour.specs.Trees.{Forest, Agrees, places, all_places_lem}
+use Rattle.tour.specs.Trees.{Forest, Agrees, places, places_in}
 use Rattle.tour.specs.Trees.Forest.{none, node}
 use Rattle.tour.specs.Blocks.{pieces}
 use Rattle.tour.specs.Walks.{Within}
@@ -116,7 +116,7 @@ module _ (g : Grammar) where
     some_same n m e = cc
 
     new_nodes : (f : Forest) (xs : List ℕ) (up : Option Parent) (e n : ℕ) → Agrees g f xs → Stand g f up ps → Within f n → e + n ≡ 64 → Ends up e → Hang f up
-        → (p : ℕ) (m : Node) → In p (all_places_lem f) → at ps p ≡ Some m → SoundNode g ps p m
+        → (p : ℕ) (m : Node) → In p (places_in f) → at ps p ≡ Some m → SoundNode g ps p m
     new_nodes none xs up e n ag st w l ends hang p m h k = absurd h
     new_nodes (node q r c kids rest) [] up e n ag st w l ends hang p m h k = absurd ag
     new_nodes (node q r c kids rest) (x ∷ xs) up e zero ag st w l ends hang p m h k = absurd w
@@ -130,7 +130,7 @@ module _ (g : Grammar) where
         ⊎_elim
         (λ i. new_nodes kids (rule g r).right (first_below q) (suc e) n ag.2 st.1 w.0 (omega arith) (ends_here q e (fresh g r c up (places kids)) up st.0 refl ends) (kids_hang q r c up kids st.0 many (few r ag.0) kids [] refl) p m i k)
         (λ i. new_nodes rest xs (next_to up) e (suc n) ag.3 st.2 w.1 l (ends_next up e ends) hang.1 p m i k)
-        (in_cases p (all_places_lem kids) (all_places_lem rest) h)
+        (in_cases p (places_in kids) (places_in rest) h)
 
 -- what stood in the table stands there
 module _ (g : Grammar) (ps ps' : List (Option Node)) (sound : SoundPlaces g ps) (kept : (p : ℕ) (n : Node) → at ps p ≡ Some n → at ps' p ≡ Some n) where
@@ -179,9 +179,9 @@ sound_law g ps ps' bs root gram sound room shallow w =
     let takes = taken_takes ps (length bs) room in
     let f = w.tree in
     let qs = taken ps (length bs) in
-    let places_are : all_places_lem f ≡ qs = w.means.at in
-    let apart : Apart (all_places_lem f) = subst Apart (sym places_are) takes.apart in
-    let inside : (p : ℕ) → In p (all_places_lem f) → p < length ps = λ p h. takes.inside p (subst (In p) places_are h) in
+    let places_are : places_in f ≡ qs = w.means.at in
+    let apart : Apart (places_in f) = subst Apart (sym places_are) takes.apart in
+    let inside : (p : ℕ) → In p (places_in f) → p < length ps = λ p h. takes.inside p (subst (In p) places_are h) in
     let stand : Stand g f None ps' = subst (Stand g f None) (sym w.nodes) (laid_stand g f None ps apart inside) in
     let deep = within g f (own_symbol g bs ∷ []) 1 64 64 [] [] refl w.means.agrees (subst (λ z. deepest g (1 ∷ []) z ≤ 64) (sym (append-nil (pieces f) ∙ w.means.block)) shallow) in
     let long : length ps' ≡ length ps = ap length w.nodes ∙ laid_length g f None ps in
@@ -194,7 +194,7 @@ sound_law g ps ps' bs root gram sound room shallow w =
           ⊎_elim
           (λ h. new_nodes g (narrow g gram) ps' f (own_symbol g bs ∷ []) None 0 64 w.means.agrees stand deep.0 refl tt (hang_root f (own_symbol g bs) w.means.agrees) p n h e)
           (λ out. old_node g ps ps' sound kept p n (sym (w.others p (λ h. out (subst (In p) (sym places_are) h))) ∙ e))
-          (member p (all_places_lem f));
+          (member p (places_in f));
     }
   where
     member : (p : ℕ) (xs : List ℕ) → In p xs ⊎ (In p xs → ⊥)

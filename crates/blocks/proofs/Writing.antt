@@ -10,7 +10,7 @@ use Rattle.sheet.specs.declared.kept.Sheet.{Sheet}
 use Rattle.sheet.specs.Meaning.{Sound, SoundRule}
 use Rattle.tour.specs.Runs.{In, Apart}
 use Rattle.tour.specs.Rules.{rule, no_rule}
-use Rattle.tour.specs.Trees.{Forest, Agrees, places, all_places_lem}
+use Rattle.tour.specs.Trees.{Forest, Agrees, places, places_in}
 use Rattle.tour.specs.Trees.Forest.{none, node}
 use Rattle.tour.specs.Blocks.{reads}
 use Rattle.tour.proofs.Lists.{head_same}
@@ -60,8 +60,8 @@ module _ (g : Grammar) (ps : List (Option Node)) (bs : List Piece) (judged : rea
       let m = tree.1 in
       let laid-there = planting.fits f (own_symbol g bs ∷ []) [] (drop (length bs) (free ps)) fits in
       let e : ps' ≡ laid g f None ps = laid-there.table_is in
-      let apart : Apart (all_places_lem f) = subst Apart (sym m.at) takes.apart in
-      let inside : (p : ℕ) → In p (all_places_lem f) → p < length ps = λ p h. takes.inside p (subst (In p) m.at h) in
+      let apart : Apart (places_in f) = subst Apart (sym m.at) takes.apart in
+      let inside : (p : ℕ) → In p (places_in f) → p < length ps = λ p h. takes.inside p (subst (In p) m.at h) in
       let stand = laid_stand g f None ps apart inside in
       record {
         tree = f;
@@ -97,7 +97,7 @@ rooted g ps ps' bs root room w = by w.tree w.means w.nodes w.root_is
     by (node p k c kids rest) m e r =
         let takes = taken_takes ps (length bs) room in
         let is : p ≡ root = head_same p root (places rest) [] r in
-        let inside : (q : ℕ) → In q (all_places_lem (node p k c kids rest)) → q < length ps = λ q h. takes.inside q (subst (In q) m.at h) in
+        let inside : (q : ℕ) → In q (places_in (node p k c kids rest)) → q < length ps = λ q h. takes.inside q (subst (In q) m.at h) in
         let stand = laid_stand g (node p k c kids rest) None ps (subst Apart (sym m.at) takes.apart) inside in
         record {
           inside = subst (λ q. q < length ps) is (inside p (inl refl));

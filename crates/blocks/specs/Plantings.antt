@@ -1,7 +1,7 @@
 -- A row of trees is written, in continuation of what stands before it.
 use Rattle.std.specs.Prelude.{◌≡◌, ℕ, ◌≤◌, List, ◌++◌, length, drop, Some, None, Option}
 use Rattle.grammar.specs.Model.{Grammar}
-use Rattle.tour.specs.Trees.{Forest, Agrees, places, all_places_lem}
+use Rattle.tour.specs.Trees.{Forest, Agrees, places, places_in}
 use Rattle.tour.specs.Blocks.{pieces}
 use Rattle.places.specs.declared.node.Node.{Node}
 use Rattle.places.specs.declared.node.Parent.{Parent}
@@ -15,7 +15,7 @@ pub record Fits (g : Grammar) (count : ℕ) (bs : List Piece) (i : ℕ) (ps : Li
   pub agrees : Agrees g f xs
   pub many : length xs ≡ count
   pub block : pairs bs ≡ pieces f ++ cs
-  pub at : free_after i ps ≡ all_places_lem f ++ qs
+  pub at : free_after i ps ≡ places_in f ++ qs
 
 -- they are written; rest is what is left of the pieces, and the free places from next on are those that are left
 pub record Laid (g : Grammar) (up : Option Parent) (ps : List (Option Node)) (f : Forest) (cs : List (ℕ × ℕ)) (qs : List ℕ) (children : List ℕ) (rest : List Piece) (next : ℕ) (ps' : List (Option Node)) : Type 0 where

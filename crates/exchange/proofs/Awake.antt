@@ -17,7 +17,7 @@ use Rattle.tour.specs.Runs.{In}
 use Rattle.tour.specs.Trees.{Instance, at_of}
 use Rattle.tour.specs.Nodes.Link.{under}
 use Rattle.tour.specs.Results.{Touches}
-use Rattle.tour.specs.Nodes.{attributes_at_lem, flow_of}
+use Rattle.tour.specs.Nodes.{attributes_of, flow_of}
 use Rattle.tour.specs.Steady.{Live, Woken}
 use Rattle.tour.specs.Steady.Woken.{root, own, sibling}
 use Rattle.tour.specs.Exchange.{swap, Exchanged}
@@ -177,8 +177,8 @@ module _ (g : Grammar) (sound : Sound g) (ps qs : List (Option Node)) (s : Sound
   woken_there : (y : Instance) → Live g (table g qs) (used qs) y → Woken g (table g ps) (table g qs) target held y → woken_below g (table g (hung_below ps target held (Some u))) held (Some u) y ≡ true
   woken_there y live (root {a} f) =
       let T = table g (hung_below ps target held (Some u)) in
-      let l : a < length (attributes_at_lem g T held) = subst (λ r. a < length (symbol g (rule g r).left).attributes) (exchanged_table.rules held ∙ sym (hung_rule g ps target held u held)) live.attribute in
-      let k = flows_nth Inherited (attributes_at_lem g T held) a l (ap (λ r. (get_or (symbol g (rule g r).left).attributes a no_attribute).flow) (hung_rule g ps target held u held) ∙ f) in
+      let l : a < length (attributes_of g T held) = subst (λ r. a < length (symbol g (rule g r).left).attributes) (exchanged_table.rules held ∙ sym (hung_rule g ps target held u held)) live.attribute in
+      let k = flows_nth Inherited (attributes_of g T held) a l (ap (λ r. (get_or (symbol g (rule g r).left).attributes a no_attribute).flow) (hung_rule g ps target held u held) ∙ f) in
       let z = eq-eqb held held refl in
       ap (λ b. b || takers_at g T u.place (Occurrence u.position) (held, a)) (ap₂ ◌&&◌ z k)
   woken_there y live (own {p} {a} f t) =

@@ -10,7 +10,7 @@ use Rattle.grammar.specs.declared.terms.Flow.TheVariants.{Inherited}
 use Rattle.sheet.specs.Meaning.{Sound}
 use Rattle.tour.specs.Trees.{Instance}
 use Rattle.tour.specs.Nodes.{Table}
-use Rattle.tour.specs.Nodes.{attributes_at_lem}
+use Rattle.tour.specs.Nodes.{attributes_of}
 use Rattle.places.specs.Places.{used, parent_at, attributes, table}
 use Rattle.places.specs.Shape.{top_from, depth_from, SoundPlaces}
 use Rattle.places.specs.declared.node.Node.{Node}
@@ -36,8 +36,8 @@ flows_within f (x ∷ xs) (suc a) h = let k = flows_within f xs a h in omega ari
 
 inherited_there : (g : Grammar) (T : Table) (p : ℕ) (x : Instance) → inherited_at g T p x ≡ true → x.1 < attributes g (T x.0).rule
 inherited_there g T p x h =
-    let w = and_parts (eqb x.0 p) (flows Inherited (slice_get (attributes_at_lem g T p) x.1)) h in
-    subst (λ q. x.1 < length (attributes_at_lem g T q)) (sym (eqb-true x.0 p w.0)) (flows_within Inherited (attributes_at_lem g T p) x.1 w.1)
+    let w = and_parts (eqb x.0 p) (flows Inherited (slice_get (attributes_of g T p) x.1)) h in
+    subst (λ q. x.1 < length (attributes_of g T q)) (sym (eqb-true x.0 p w.0)) (flows_within Inherited (attributes_of g T p) x.1 w.1)
 
 pub exchanged_sound : (g : Grammar) → Sound g → (ps qs : List (Option Node)) → SoundPlaces g ps → (target held : ℕ) (u : Parent) → Exchangeable g ps target held u → ExchangedPlaces g ps qs target held → SoundPlaces g qs
 exchanged_sound g sound ps qs s target held u x w =

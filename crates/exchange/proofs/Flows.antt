@@ -16,7 +16,7 @@ use Rattle.plans.specs.declared.Group.{Group}
 use Rattle.sheet.specs.Answers.{group_rule}
 use Rattle.tour.specs.Rules.{rule, symbol, no_symbol, no_attribute}
 use Rattle.tour.specs.Trees.{Instance}
-use Rattle.tour.specs.Nodes.{attributes_at_lem}
+use Rattle.tour.specs.Nodes.{attributes_of}
 use Rattle.places.specs.Places.{at, table, cell_of}
 use Rattle.places.specs.declared.node.Node.{Node}
 use Rattle.exchange.specs.Waking.{is_at}
@@ -47,7 +47,7 @@ attribute_there (s ∷ ss) zero a = refl
 attribute_there (s ∷ ss) (suc l) a = attribute_there ss l a
 
 -- what a node's rule takes from above
-pub taken_left : (g : Grammar) (ps : List (Option Node)) (p a : ℕ) (n : Node) (k : Group) → at ps p ≡ Some n → option_map group_rule (Some k) ≡ slice_get g.rules n.rule → (group_scope k).symbols ≡ g.symbols → flows Inherited (slice_get (attributes_at_lem g (table g ps) p) a) ≡ takes (group_scope k) 0 a
+pub taken_left : (g : Grammar) (ps : List (Option Node)) (p a : ℕ) (n : Node) (k : Group) → at ps p ≡ Some n → option_map group_rule (Some k) ≡ slice_get g.rules n.rule → (group_scope k).symbols ≡ g.symbols → flows Inherited (slice_get (attributes_of g (table g ps) p) a) ≡ takes (group_scope k) 0 a
 taken_left g ps p a n k there e s =
     sym (
     ap (flows Inherited) (attribute_there (group_scope k).symbols k.production.left a)

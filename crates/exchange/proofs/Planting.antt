@@ -218,7 +218,7 @@ module _ (g : Grammar) (sound : Sound g) (ps : List (Option Node)) (s : SoundPla
           let c = eqb-true (get_or n.children k 0) target t in
           let w : Some u ≡ Some (record { place = p; position = suc k }) = sym x.hanging ∙ ap (parent_at ps) (sym c) ∙ hang in
           subst (λ z. ChildThere g p k (get_or (rule g n.rule).right k 0) (at (hung_below ps target held (Some u)) z)) (sym (ap (λ b. cond b held (get_or n.children k 0)) t))
-          (here held (hung_held g ps target held u x.held_used ∙ w) (x.same_symbol_lem ∙ ap (λ z. (rule g (table g ps z).rule).left) (sym c) ∙ old))
+          (here held (hung_held g ps target held u x.held_used ∙ w) (x.same_symbol ∙ ap (λ z. (rule g (table g ps z).rule).left) (sym c) ∙ old))
       by false t =
           subst (λ z. ChildThere g p k (get_or (rule g n.rule).right k 0) (at (hung_below ps target held (Some u)) z)) (sym (ap (λ b. cond b held (get_or n.children k 0)) t))
           (here (get_or n.children k 0) (hung_other g ps target held u (get_or n.children k 0) (eqb-false (get_or n.children k 0) target t) (hangs_not_held (get_or n.children k 0) (record { place = p; position = suc k }) hang) ∙ hang) old)

@@ -9,7 +9,7 @@ use Rattle.tour.specs.Exchange.{Exchanged}
 use Rattle.tour.specs.Rules.{rule}
 use Rattle.tour.specs.Trees.{Instance}
 use Rattle.tour.specs.Nodes.{Table}
-use Rattle.tour.specs.Nodes.{attributes_at_lem}
+use Rattle.tour.specs.Nodes.{attributes_of}
 use Rattle.tour.specs.Steady.{Live, Woken}
 use Rattle.places.specs.Places.{used, parent_at, owed_at, table}
 use Rattle.places.specs.Shape.{top_from, depth_from, SoundPlaces}
@@ -31,7 +31,7 @@ hung ps target held = hung_below ps target held (parent_at ps target)
 
 -- the inherited attributes of the node at p
 abbrev pub inherited_at : Grammar → Table → ℕ → Instance → Bool
-inherited_at g T p x = x.0 == p && flows Inherited (slice_get (attributes_at_lem g T p) x.1)
+inherited_at g T p x = x.0 == p && flows Inherited (slice_get (attributes_of g T p) x.1)
 
 -- What becomes owed: the inherited attributes of the root that has come, and each target of the parent's rule that takes
 -- an argument from that occurrence.
@@ -49,7 +49,7 @@ pub record Exchangeable (g : Grammar) (ps : List (Option Node)) (target held : �
   pub hanging : parent_at ps target ≡ Some u
   pub standing_free : parent_at ps held ≡ None
   pub held_used : used ps held ≡ true
-  pub same_symbol_lem : (rule g (table g ps held).rule).left ≡ (rule g (table g ps target).rule).left
+  pub same_symbol : (rule g (table g ps held).rule).left ≡ (rule g (table g ps target).rule).left
   pub elsewhere : top_from ps 64 target ≡ held → ⊥
   pub deep_enough : (q : ℕ) → used ps q ≡ true → top_from ps 64 q ≡ held → depth_from ps 64 u.place + depth_from ps 64 q ≤ 64
 

@@ -6,7 +6,7 @@ use Rattle.sheet.specs.Meaning.{Sound}
 use Rattle.tour.specs.Runs.{In, named, read}
 use Rattle.tour.specs.Rules.{rule}
 use Rattle.tour.specs.Fresh.{fresh}
-use Rattle.tour.specs.Trees.{Instance, same_instance, all_places_lem, instances}
+use Rattle.tour.specs.Trees.{Instance, same_instance, places_in, instances}
 use Rattle.tour.specs.Touring.{tour, Touring}
 use Rattle.tour.specs.Nodes.Link.{under}
 use Rattle.tour.specs.Results.{sources, apply, result, engine}
@@ -60,11 +60,11 @@ module _ (g : Grammar) (so : Sound g) where
     day = subst (λ t. Rooted g (table g r.places) 0 t) ri.shows.tree_shown (day_rooted g (table g r.places) (used r.places) r.root right_shape)
 
     -- the table's cells are the tree's
-    pub tree_cells : (p : ℕ) → In p (all_places_lem k.tree) → cells_of k.tree p ≡ table g r.places p
+    pub tree_cells : (p : ℕ) → In p (places_in k.tree) → cells_of k.tree p ≡ table g r.places p
     tree_cells = cells_agree (table g r.places) k.tree day.shown day.apart
 
     -- and so are those above them
-    pub tree_alike : (p : ℕ) → In p (all_places_lem k.tree) → AlikeAt (table g r.places) (cells_of k.tree) p
+    pub tree_alike : (p : ℕ) → In p (places_in k.tree) → AlikeAt (table g r.places) (cells_of k.tree) p
     tree_alike p h = record {
       here = tree_cells p h;
       parent = λ u i e. tree_cells u (parent_there (table g r.places) k.tree day.shown p u i h e);

@@ -6,7 +6,7 @@ use Rattle.grammar.specs.declared.terms.Flow.{Flow}
 use Rattle.grammar.specs.declared.terms.Flow.TheVariants.{Inherited, Synthesized}
 use Rattle.tour.specs.Runs.{In, Apart}
 use Rattle.tour.specs.Rules.{rule, symbol, no_attribute}
-use Rattle.tour.specs.Trees.{Instance, Forest, places, all_places_lem}
+use Rattle.tour.specs.Trees.{Instance, Forest, places, places_in}
 use Rattle.tour.specs.Trees.Forest.{none, node}
 use Rattle.tour.specs.Nodes.{Link, Cell, Table, flow_of, Shows, above}
 use Rattle.tour.specs.Nodes.Link.{top, under}
@@ -19,18 +19,18 @@ use Rattle.exchange.specs.declared.taken.Taken.TheVariants.{Attribute}
 use Rattle.law.specs.Book.{or_else, cell_in, cells_of}
 
 -- there is no cell where no tree stands
-cell_out : (p : ℕ) (f : Forest) (up : ℕ → Link) (k : ℕ) → (In p (all_places_lem f) → ⊥) → cell_in p f up k ≡ None
+cell_out : (p : ℕ) (f : Forest) (up : ℕ → Link) (k : ℕ) → (In p (places_in f) → ⊥) → cell_in p f up k ≡ None
 cell_out p none up k n = refl
 cell_out p (node q r c kids rest) up k n =
     ap (λ b. cond b (Some (record { rule = r; code = c; link = up k; kids = places kids })) (or_else (cell_in p kids (under q) 1) (cell_in p rest up (suc k)))) (ne_eqb p q (λ e. n (inl e)))
-    ∙ ap (λ z. or_else z (cell_in p rest up (suc k))) (cell_out p kids (under q) 1 (λ m. n (inr (in_left p (all_places_lem kids) (all_places_lem rest) m))))
-    ∙ cell_out p rest up (suc k) (λ m. n (inr (in_right p (all_places_lem kids) (all_places_lem rest) m)))
+    ∙ ap (λ z. or_else z (cell_in p rest up (suc k))) (cell_out p kids (under q) 1 (λ m. n (inr (in_left p (places_in kids) (places_in rest) m))))
+    ∙ cell_out p rest up (suc k) (λ m. n (inr (in_right p (places_in kids) (places_in rest) m)))
 
 -- the cell of a shown tree is the table's
-cell_in_lem : (T : Table) (p : ℕ) (f : Forest) (up : ℕ → Link) (k : ℕ) → Shows T f up k → Apart (all_places_lem f) → In p (all_places_lem f) → cell_in p f up k ≡ Some (T p)
+cell_in_lem : (T : Table) (p : ℕ) (f : Forest) (up : ℕ → Link) (k : ℕ) → Shows T f up k → Apart (places_in f) → In p (places_in f) → cell_in p f up k ≡ Some (T p)
 cell_in_lem T p none up k sh rows m = absurd m
 cell_in_lem T p (node q r c kids rest) up k (er, ec, ek, el, sk, sr) (out, rows) m =
-    let parts = apart_parts (all_places_lem kids) (all_places_lem rest) rows in
+    let parts = apart_parts (places_in kids) (places_in rest) rows in
     by (cases_eq p q) m (cell_in_lem T p kids (under q) 1 sk parts.0) (cell_in_lem T p rest up (suc k) sr parts.1) parts.2
   where
     here : Cell
@@ -42,21 +42,21 @@ cell_in_lem T p (node q r c kids rest) up k (er, ec, ek, el, sk, sr) (out, rows)
     is_here : T q ≡ here
     is_here i = record { rule = er i; code = ec i; link = el i; kids = ek i }
 
-    inside : In p (all_places_lem kids) ⊎ In p (all_places_lem rest) → (In p (all_places_lem kids) → cell_in p kids (under q) 1 ≡ Some (T p)) → (In p (all_places_lem rest) → cell_in p rest up (suc k) ≡ Some (T p)) → ((x : ℕ) → In x (all_places_lem kids) → In x (all_places_lem rest) → ⊥) → chosen false ≡ Some (T p)
+    inside : In p (places_in kids) ⊎ In p (places_in rest) → (In p (places_in kids) → cell_in p kids (under q) 1 ≡ Some (T p)) → (In p (places_in rest) → cell_in p rest up (suc k) ≡ Some (T p)) → ((x : ℕ) → In x (places_in kids) → In x (places_in rest) → ⊥) → chosen false ≡ Some (T p)
     inside (inl w) f g apart = ap (λ z. or_else z (cell_in p rest up (suc k))) (f w)
     inside (inr w) f g apart = ap (λ z. or_else z (cell_in p rest up (suc k))) (cell_out p kids (under q) 1 (λ h. apart p h w)) ∙ g w
 
-    by : (p ≡ q) ⊎ (p ≡ q → ⊥) → (p ≡ q) ⊎ In p (all_places_lem kids ++ all_places_lem rest) → (In p (all_places_lem kids) → cell_in p kids (under q) 1 ≡ Some (T p)) → (In p (all_places_lem rest) → cell_in p rest up (suc k) ≡ Some (T p)) → ((x : ℕ) → In x (all_places_lem kids) → In x (all_places_lem rest) → ⊥) → chosen (eqb p q) ≡ Some (T p)
+    by : (p ≡ q) ⊎ (p ≡ q → ⊥) → (p ≡ q) ⊎ In p (places_in kids ++ places_in rest) → (In p (places_in kids) → cell_in p kids (under q) 1 ≡ Some (T p)) → (In p (places_in rest) → cell_in p rest up (suc k) ≡ Some (T p)) → ((x : ℕ) → In x (places_in kids) → In x (places_in rest) → ⊥) → chosen (eqb p q) ≡ Some (T p)
     by (inl e) w f g apart = ap chosen (eq-eqb p q e) ∙ ap Some (sym is_here ∙ ap T (sym e))
     by (inr n) (inl e) f g apart = absurd (n e)
-    by (inr n) (inr w) f g apart = ap chosen (ne_eqb p q n) ∙ inside (in_cases p (all_places_lem kids) (all_places_lem rest) w) f g apart
+    by (inr n) (inr w) f g apart = ap chosen (ne_eqb p q n) ∙ inside (in_cases p (places_in kids) (places_in rest) w) f g apart
 
 -- the cells of a tree agree with the table that shows it
-pub cells_agree : (T : Table) (f : Forest) → Shows T f above 0 → Apart (all_places_lem f) → (p : ℕ) → In p (all_places_lem f) → cells_of f p ≡ T p
+pub cells_agree : (T : Table) (f : Forest) → Shows T f above 0 → Apart (places_in f) → (p : ℕ) → In p (places_in f) → cells_of f p ≡ T p
 cells_agree T f sh rows p m = ap (λ z. unwrap_or z (record { rule = 0; code = 0; link = top; kids = [] })) (cell_in_lem T p f above 0 sh rows m)
 
 -- the parent of a place of shown trees stands in them too, unless the place is one of their roots
-parent_in : (T : Table) (p u i : ℕ) (f : Forest) (up : ℕ → Link) (k : ℕ) → Shows T f up k → In p (all_places_lem f) → (T p).link ≡ under u i → In u (all_places_lem f) ⊎ ((j : ℕ) × ((T p).link ≡ up j))
+parent_in : (T : Table) (p u i : ℕ) (f : Forest) (up : ℕ → Link) (k : ℕ) → Shows T f up k → In p (places_in f) → (T p).link ≡ under u i → In u (places_in f) ⊎ ((j : ℕ) × ((T p).link ≡ up j))
 parent_in T p u i none up k sh m e = absurd m
 parent_in T p u i (node q r c kids rest) up k (er, ec, ek, el, sk, sr) m e = by m (λ w. parent_in T p u i kids (under q) 1 sk w e) (λ w. parent_in T p u i rest up (suc k) sr w e)
   where
@@ -66,15 +66,15 @@ parent_in T p u i (node q r c kids rest) up k (er, ec, ek, el, sk, sr) m e = by 
         same : (l : Link) (u i q j : ℕ) → l ≡ under u i → l ≡ under q j → u ≡ q
         same l u i q j e h = cc
 
-    by : (p ≡ q) ⊎ In p (all_places_lem kids ++ all_places_lem rest) → (In p (all_places_lem kids) → In u (all_places_lem kids) ⊎ ((j : ℕ) × ((T p).link ≡ under q j))) → (In p (all_places_lem rest) → In u (all_places_lem rest) ⊎ ((j : ℕ) × ((T p).link ≡ up j))) → ((u ≡ q) ⊎ In u (all_places_lem kids ++ all_places_lem rest)) ⊎ ((j : ℕ) × ((T p).link ≡ up j))
+    by : (p ≡ q) ⊎ In p (places_in kids ++ places_in rest) → (In p (places_in kids) → In u (places_in kids) ⊎ ((j : ℕ) × ((T p).link ≡ under q j))) → (In p (places_in rest) → In u (places_in rest) ⊎ ((j : ℕ) × ((T p).link ≡ up j))) → ((u ≡ q) ⊎ In u (places_in kids ++ places_in rest)) ⊎ ((j : ℕ) × ((T p).link ≡ up j))
     by (inl h) f g = inr (k, ap (λ z. (T z).link) h ∙ el)
-    by (inr w) f g = elim (in_cases p (all_places_lem kids) (all_places_lem rest) w) [
-      | inl a ↦ elim (f a) [ inl b ↦ inl (inr (in_left u (all_places_lem kids) (all_places_lem rest) b)) | inr b ↦ inl (inl (mine b)) ]
-      | inr a ↦ elim (g a) [ inl b ↦ inl (inr (in_right u (all_places_lem kids) (all_places_lem rest) b)) | inr b ↦ inr b ]
+    by (inr w) f g = elim (in_cases p (places_in kids) (places_in rest) w) [
+      | inl a ↦ elim (f a) [ inl b ↦ inl (inr (in_left u (places_in kids) (places_in rest) b)) | inr b ↦ inl (inl (mine b)) ]
+      | inr a ↦ elim (g a) [ inl b ↦ inl (inr (in_right u (places_in kids) (places_in rest) b)) | inr b ↦ inr b ]
     ]
 
 -- the parent of a place of a shown tree stands in the tree
-pub parent_there : (T : Table) (f : Forest) → Shows T f above 0 → (p u i : ℕ) → In p (all_places_lem f) → (T p).link ≡ under u i → In u (all_places_lem f)
+pub parent_there : (T : Table) (f : Forest) → Shows T f above 0 → (p u i : ℕ) → In p (places_in f) → (T p).link ≡ under u i → In u (places_in f)
 parent_there T f sh p u i m e = elim (parent_in T p u i f above 0 sh m e) [ inl w ↦ w | inr w ↦ absurd (not_top (T p).link u i w.1 e) ]
 
 -- two tables that have the same cell at a place and at its parent

@@ -7,7 +7,7 @@ use Rattle.tour.specs.Rules.{rule, no_rule, no_symbol}
 use Rattle.tour.specs.Nodes.{Link, Shows, above}
 use Rattle.tour.specs.Nodes.Link.{top, under}
 use Rattle.tour.specs.Runs.{In, Apart}
-use Rattle.tour.specs.Trees.{Forest, places, Agrees, all_places_lem}
+use Rattle.tour.specs.Trees.{Forest, places, Agrees, places_in}
 use Rattle.tour.specs.Trees.Forest.{none, node}
 use Rattle.tour.proofs.Lists.{in_left, in_right}
 use Rattle.tour.proofs.Places.{apart_parts}
@@ -87,32 +87,32 @@ module _ (g : Grammar) where
       ∙ length_laid kids (first_below p) ps
 
   -- places that the trees do not have are as they were
-  pub laid_other : (f : Forest) (up : Option Parent) (ps : List (Option Node)) (q : ℕ) → (In q (all_places_lem f) → ⊥) → at (laid g f up ps) q ≡ at ps q
+  pub laid_other : (f : Forest) (up : Option Parent) (ps : List (Option Node)) (q : ℕ) → (In q (places_in f) → ⊥) → at (laid g f up ps) q ≡ at ps q
   laid_other none up ps q h = refl
   laid_other (node p r c kids rest) up ps q h =
       let ne : q ≢ p = λ e. h (inl e) in
-      laid_other rest (next_to up) (set (laid g kids (first_below p) ps) p (Some (fresh g r c up (places kids)))) q (λ m. h (inr (in_right q (all_places_lem kids) (all_places_lem rest) m)))
+      laid_other rest (next_to up) (set (laid g kids (first_below p) ps) p (Some (fresh g r c up (places kids)))) q (λ m. h (inr (in_right q (places_in kids) (places_in rest) m)))
       ∙ get_or-set_other (laid g kids (first_below p) ps) p q (Some (fresh g r c up (places kids))) None ne
-      ∙ laid_other kids (first_below p) ps q (λ m. h (inr (in_left q (all_places_lem kids) (all_places_lem rest) m)))
+      ∙ laid_other kids (first_below p) ps q (λ m. h (inr (in_left q (places_in kids) (places_in rest) m)))
 
   -- tables that agree on the trees' places hold them alike
-  pub holds_kept : (f : Forest) (up : Option Parent) (ps qs : List (Option Node)) → ((q : ℕ) → In q (all_places_lem f) → at qs q ≡ at ps q) → Holds g ps f up → Holds g qs f up
+  pub holds_kept : (f : Forest) (up : Option Parent) (ps qs : List (Option Node)) → ((q : ℕ) → In q (places_in f) → at qs q ≡ at ps q) → Holds g ps f up → Holds g qs f up
   holds_kept none up ps qs e h = tt
   holds_kept (node p r c kids rest) up ps qs e (h, hk, hr) = (
     e p (inl refl) ∙ h,
-    holds_kept kids (first_below p) ps qs (λ q m. e q (inr (in_left q (all_places_lem kids) (all_places_lem rest) m))) hk,
-    holds_kept rest (next_to up) ps qs (λ q m. e q (inr (in_right q (all_places_lem kids) (all_places_lem rest) m))) hr,
+    holds_kept kids (first_below p) ps qs (λ q m. e q (inr (in_left q (places_in kids) (places_in rest) m))) hk,
+    holds_kept rest (next_to up) ps qs (λ q m. e q (inr (in_right q (places_in kids) (places_in rest) m))) hr,
   )
 
   -- the places of the trees hold new nodes
-  pub laid_holds : (f : Forest) (up : Option Parent) (ps : List (Option Node)) → Apart (all_places_lem f) → ((q : ℕ) → In q (all_places_lem f) → q < length ps) → Holds g (laid g f up ps) f up
+  pub laid_holds : (f : Forest) (up : Option Parent) (ps : List (Option Node)) → Apart (places_in f) → ((q : ℕ) → In q (places_in f) → q < length ps) → Holds g (laid g f up ps) f up
   laid_holds none up ps a h = tt
   laid_holds (node p r c kids rest) up ps (n, a) h = (
-    laid_other rest (next_to up) mid p (λ m. n (in_right p (all_places_lem kids) (all_places_lem rest) m)) ∙ get_or-set_same below p new None inside,
+    laid_other rest (next_to up) mid p (λ m. n (in_right p (places_in kids) (places_in rest) m)) ∙ get_or-set_same below p new None inside,
     holds_kept kids (first_below p) mid after (λ q m. laid_other rest (next_to up) mid q (λ k. parts.2 q m k))
-        (holds_kept kids (first_below p) below mid (λ q m. get_or-set_other below p q new None (λ e. n (in_left p (all_places_lem kids) (all_places_lem rest) (subst (λ z. In z (all_places_lem kids)) e m))))
-        (laid_holds kids (first_below p) ps parts.0 (λ q m. h q (inr (in_left q (all_places_lem kids) (all_places_lem rest) m))))),
-    laid_holds rest (next_to up) mid parts.1 (λ q m. subst (λ l. q < l) (sym (length-set below p new ∙ length_laid kids (first_below p) ps)) (h q (inr (in_right q (all_places_lem kids) (all_places_lem rest) m)))),
+        (holds_kept kids (first_below p) below mid (λ q m. get_or-set_other below p q new None (λ e. n (in_left p (places_in kids) (places_in rest) (subst (λ z. In z (places_in kids)) e m))))
+        (laid_holds kids (first_below p) ps parts.0 (λ q m. h q (inr (in_left q (places_in kids) (places_in rest) m))))),
+    laid_holds rest (next_to up) mid parts.1 (λ q m. subst (λ l. q < l) (sym (length-set below p new ∙ length_laid kids (first_below p) ps)) (h q (inr (in_right q (places_in kids) (places_in rest) m)))),
   )
     where
       new : Option Node
@@ -130,8 +130,8 @@ module _ (g : Grammar) where
       inside : p < length (laid g kids (first_below p) ps)
       inside = subst (λ l. p < l) (sym (length_laid kids (first_below p) ps)) (h p (inl refl))
 
-      parts : Apart (all_places_lem kids) × Apart (all_places_lem rest) × ((x : ℕ) → In x (all_places_lem kids) → In x (all_places_lem rest) → ⊥)
-      parts = apart_parts (all_places_lem kids) (all_places_lem rest) a
+      parts : Apart (places_in kids) × Apart (places_in rest) × ((x : ℕ) → In x (places_in kids) → In x (places_in rest) → ⊥)
+      parts = apart_parts (places_in kids) (places_in rest) a
 
   module _ (so : Sound g) where
     -- the children of a new node
@@ -154,5 +154,5 @@ module _ (g : Grammar) where
     )
 
     -- a tree laid into a table is shown there
-    pub laid_shown : (f : Forest) (x : ℕ) (ps : List (Option Node)) → Agrees g f (x ∷ []) → Apart (all_places_lem f) → ((q : ℕ) → In q (all_places_lem f) → q < length ps) → Shows (table g (laid g f None ps)) f above 0
+    pub laid_shown : (f : Forest) (x : ℕ) (ps : List (Option Node)) → Agrees g f (x ∷ []) → Apart (places_in f) → ((q : ℕ) → In q (places_in f) → q < length ps) → Shows (table g (laid g f None ps)) f above 0
     laid_shown f x ps ag a h = holds_shows f (x ∷ []) None above 0 (laid g f None ps) ag (λ n. refl) (laid_holds f None ps a h)

@@ -6,7 +6,7 @@ use Rattle.grammar.specs.Model.{Grammar}
 use Rattle.sheet.specs.Meaning.{Sound}
 use Rattle.tour.specs.Rules.{rule}
 use Rattle.tour.specs.Runs.{In, Apart}
-use Rattle.tour.specs.Trees.{Instance, Forest, places, Agrees, row, instances, all_places_lem}
+use Rattle.tour.specs.Trees.{Instance, Forest, places, Agrees, row, instances, places_in}
 use Rattle.tour.specs.Trees.Forest.{none, node}
 use Rattle.tour.specs.Walks.{Within}
 use Rattle.tour.proofs.Lists.{in_cases}
@@ -122,7 +122,7 @@ module _ (g : Grammar) (so : Sound g) (qs : List (Option Node)) where
       (record { hangs = m.2 ∙ ap (λ z. Some (record { place = p; position = z })) j; symbol_is = m.3 })
 
   -- the nodes of trees that were laid are sound
-  holds_sound : (f : Forest) (xs : List ℕ) (up : Option Parent) (n d : ℕ) → Agrees g f xs → Holds g qs f up → BelowOrTop f up n → Within f d → n + d ≤ 64 → (p : ℕ) → In p (all_places_lem f) → NewNode g qs p
+  holds_sound : (f : Forest) (xs : List ℕ) (up : Option Parent) (n d : ℕ) → Agrees g f xs → Holds g qs f up → BelowOrTop f up n → Within f d → n + d ≤ 64 → (p : ℕ) → In p (places_in f) → NewNode g qs p
   holds_sound none xs up n d ag h b w l p m = absurd m
   holds_sound (node q r c kids rest) [] up n d ag h b w l p m = absurd ag
   holds_sound (node q r c kids rest) (x ∷ xs) up n zero ag h b w l p m = absurd w
@@ -147,12 +147,12 @@ module _ (g : Grammar) (so : Sound g) (qs : List (Option Node)) where
         all_marks = refl;
       }
 
-      go : In p (q ∷ (all_places_lem kids ++ all_places_lem rest)) → (In p (all_places_lem kids) → NewNode g qs p) → (In p (all_places_lem rest) → NewNode g qs p) → NewNode g qs p
+      go : In p (q ∷ (places_in kids ++ places_in rest)) → (In p (places_in kids) → NewNode g qs p) → (In p (places_in rest) → NewNode g qs p) → NewNode g qs p
       go (inl s) a z = subst (NewNode g qs) (sym s) here
-      go (inr s) a z = elim (in_cases p (all_places_lem kids) (all_places_lem rest) s) [ inl k ↦ a k | inr k ↦ z k ]
+      go (inr s) a z = elim (in_cases p (places_in kids) (places_in rest) s) [ inl k ↦ a k | inr k ↦ z k ]
 
   -- the nodes of one tree that was laid, with no parent above it
-  pub tree_new : (f : Forest) (x : ℕ) → Agrees g f (x ∷ []) → Holds g qs f None → Within f 64 → (p : ℕ) → In p (all_places_lem f) → NewNode g qs p
+  pub tree_new : (f : Forest) (x : ℕ) → Agrees g f (x ∷ []) → Holds g qs f None → Within f 64 → (p : ℕ) → In p (places_in f) → NewNode g qs p
   tree_new f x ag h w = holds_sound f (x ∷ []) None 0 64 ag h tt w (omega arith)
 
 -- nodes that were sound are sound in a table that holds them and others
@@ -190,9 +190,9 @@ module _ (g : Grammar) (ps qs : List (Option Node)) (sp : SoundPlaces g ps) (sam
 -- a tree of the sheet, at free places of a table
 pub record Room (g : Grammar) (ps : List (Option Node)) (x : ℕ) (f : Forest) : Type 0 where
   pub agrees : Agrees g f (x ∷ [])
-  pub apart : Apart (all_places_lem f)
-  pub inside : (p : ℕ) → In p (all_places_lem f) → p < length ps
-  pub free : (p : ℕ) → In p (all_places_lem f) → at ps p ≡ None
+  pub apart : Apart (places_in f)
+  pub inside : (p : ℕ) → In p (places_in f) → p < length ps
+  pub free : (p : ℕ) → In p (places_in f) → at ps p ≡ None
   pub depth : Within f 64
 
 -- a place does not hold a node and nothing
@@ -201,7 +201,7 @@ some_none o n e w = let z : ◌≡◌ {A = ℕ} 0 1 = cc in omega arith
 
 module _ (g : Grammar) (so : Sound g) (ps : List (Option Node)) (x : ℕ) (f : Forest) (ro : Room g ps x f) where
   -- each place of the tree holds a sound node, all of whose attributes are owed
-  pub laid_new : (p : ℕ) → In p (all_places_lem f) → NewNode g (laid g f None ps) p
+  pub laid_new : (p : ℕ) → In p (places_in f) → NewNode g (laid g f None ps) p
   laid_new = tree_new g so (laid g f None ps) f x ro.agrees (laid_holds g f None ps ro.apart ro.inside) ro.depth
 
   -- all its instances are owed
@@ -209,7 +209,7 @@ module _ (g : Grammar) (so : Sound g) (ps : List (Option Node)) (x : ℕ) (f : F
   laid_owed = holds_owed g (laid g f None ps) f None (laid_holds g f None ps ro.apart ro.inside)
 
   -- a used place was not taken, and is as it was
-  pub used_apart : (p : ℕ) (n : Node) → at ps p ≡ Some n → In p (all_places_lem f) → ⊥
+  pub used_apart : (p : ℕ) (n : Node) → at ps p ≡ Some n → In p (places_in f) → ⊥
   used_apart p n e m = some_none (at ps p) n (ro.free p m) e
 
   pub laid_same : (p : ℕ) (n : Node) → at ps p ≡ Some n → at (laid g f None ps) p ≡ Some n
@@ -220,13 +220,13 @@ module _ (g : Grammar) (so : Sound g) (ps : List (Option Node)) (x : ℕ) (f : F
   laid_places sp = record {
     some_place = subst (λ l. 1 ≤ l) (sym (length_laid g f None ps)) sp.some_place;
     few_places = subst (λ l. l ≤ 4096) (sym (length_laid g f None ps)) sp.few_places;
-    nodes = λ p n e. elim (in_either p (all_places_lem f)) [
+    nodes = λ p n e. elim (in_either p (places_in f)) [
       | inl m ↦ new p n e m
       | inr k ↦ node_kept g ps (laid g f None ps) sp laid_same p n (sym (laid_other g f None ps p k) ∙ e)
     ];
   }
     where
-      new : (p : ℕ) (n : Node) → at (laid g f None ps) p ≡ Some n → In p (all_places_lem f) → SoundNode g (laid g f None ps) p n
+      new : (p : ℕ) (n : Node) → at (laid g f None ps) p ≡ Some n → In p (places_in f) → SoundNode g (laid g f None ps) p n
       new p n e m =
           let w = laid_new p m in
           let s : w.new ≡ n = (let u = w.there in cc) in

@@ -2,11 +2,11 @@
 use Rattle.std.proofs.Common.{◌≡◌, ℕ, ◌<◌, true, ◌⊎◌, List, [], ◌∷◌, ◌++◌, length, None, Option, sym, ap, ◌∙◌, subst, inl, inr, arith}
 use Rattle.grammar.specs.Model.{Grammar}
 use Rattle.sheet.specs.Meaning.{Sound}
-use Rattle.tour.specs.Nodes.{Table, attributes_at_lem, Shows, above}
+use Rattle.tour.specs.Nodes.{Table, attributes_of, Shows, above}
 use Rattle.tour.specs.Rules.{rule, symbol}
 use Rattle.tour.specs.Runs.{In, Apart}
-use Rattle.tour.specs.Shapes.{tree_at_lem}
-use Rattle.tour.specs.Trees.{Instance, Forest, Agrees, row, instances, all_places_lem}
+use Rattle.tour.specs.Shapes.{tree_from}
+use Rattle.tour.specs.Trees.{Instance, Forest, Agrees, row, instances, places_in}
 use Rattle.tour.specs.Trees.Forest.{none, node}
 use Rattle.tour.specs.Walks.{Within}
 use Rattle.tour.proofs.Lists.{in_cases}
@@ -21,13 +21,13 @@ use Rattle.law.proofs.LayingPlaces.{few_attributes, all_owed, length_laid, laid_
 use Rattle.law.proofs.LayingSound.{in_row_below, NewNode, Room, laid_new, laid_owed, laid_places, laid_shape}
 
 -- a tree that a table shows is the one that is read off it at its root
-pub tree_at_root : (g : Grammar) (T : Table) (f : Forest) (x : ℕ) → Agrees g f (x ∷ []) → Shows T f above 0 → Within f 64 → tree_at_lem T 63 (root_of f) ≡ f
+pub tree_at_root : (g : Grammar) (T : Table) (f : Forest) (x : ℕ) → Agrees g f (x ∷ []) → Shows T f above 0 → Within f 64 → tree_from T 63 (root_of f) ≡ f
 tree_at_root g T none x ag s w = absurd ag
 tree_at_root g T (node p r c kids none) x ag s w = tree_at_shown T p r c kids s w
 tree_at_root g T (node p r c kids (node p' r' c' kids' rest)) x ag s w = absurd ag.3
 
 -- an attribute of a new node is owed
-pub new_owed : (g : Grammar) (qs : List (Option Node)) (p a : ℕ) → NewNode g qs p → a < length (attributes_at_lem g (table g qs) p) → owed_at qs (p, a) ≡ true
+pub new_owed : (g : Grammar) (qs : List (Option Node)) (p a : ℕ) → NewNode g qs p → a < length (attributes_of g (table g qs) p) → owed_at qs (p, a) ≡ true
 new_owed g qs p a n h =
     let l : a < attributes g n.new.rule = subst (λ o. a < length (symbol g (rule g (cell_of g o).rule).left).attributes) n.there h in
     ap (λ o. owes (marks_in o) a) n.there ∙ ap (λ z. owes z a) n.all_marks ∙ all_owed (attributes g n.new.rule) a l
@@ -46,14 +46,14 @@ instance_small g so (node p r c kids rest) (x ∷ xs) (l, e, ag, ag') y m = go (
 -- as it was
 pub record LaidIn (g : Grammar) (ps qs : List (Option Node)) (f : Forest) : Type 0 where
   pub long : length qs ≡ length ps
-  pub others : (p : ℕ) → (In p (all_places_lem f) → ⊥) → at qs p ≡ at ps p
-  pub free_before : (p : ℕ) → In p (all_places_lem f) → at ps p ≡ None
-  pub inside : (p : ℕ) → In p (all_places_lem f) → p < length ps
-  pub apart : Apart (all_places_lem f)
-  pub new_nodes : (p : ℕ) → In p (all_places_lem f) → NewNode g qs p
+  pub others : (p : ℕ) → (In p (places_in f) → ⊥) → at qs p ≡ at ps p
+  pub free_before : (p : ℕ) → In p (places_in f) → at ps p ≡ None
+  pub inside : (p : ℕ) → In p (places_in f) → p < length ps
+  pub apart : Apart (places_in f)
+  pub new_nodes : (p : ℕ) → In p (places_in f) → NewNode g qs p
   pub owed : (x : Instance) → In x (instances g f) → owed_at qs x ≡ true
   pub shown : Shows (table g qs) f above 0
-  pub tree_there : tree_at_lem (table g qs) 63 (root_of f) ≡ f
+  pub tree_there : tree_from (table g qs) 63 (root_of f) ≡ f
   pub places_sound : SoundPlaces g ps → SoundPlaces g qs
   pub in_shape : (root : ℕ) → InShape g ps root → InShape g qs root
 

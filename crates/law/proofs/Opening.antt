@@ -9,8 +9,8 @@ use Rattle.tour.specs.Nodes.{Shows, above}
 use Rattle.tour.specs.Nodes.Link.{top}
 use Rattle.tour.specs.Rules.{rule}
 use Rattle.tour.specs.Runs.{In}
-use Rattle.tour.specs.Shapes.{tree_at_lem}
-use Rattle.tour.specs.Trees.{Forest, Agrees, instances, all_places_lem}
+use Rattle.tour.specs.Shapes.{tree_from}
+use Rattle.tour.specs.Trees.{Forest, Agrees, instances, places_in}
 use Rattle.tour.specs.Trees.Forest.{none, node}
 use Rattle.tour.proofs.Lists.{in_left, in_cases}
 use Rattle.tour.proofs.Shapes.{not_top}
@@ -50,7 +50,7 @@ top_none None e = refl
 top_none (Some u) e = absurd (not_top (link_of (Some u)) u.place u.position e refl)
 
 -- the root of a tree that was laid stands in the tree, has no parent, and has the tree's symbol
-pub root_in : (g : Grammar) (f : Forest) (x : ℕ) → Agrees g f (x ∷ []) → In (root_of f) (all_places_lem f)
+pub root_in : (g : Grammar) (f : Forest) (x : ℕ) → Agrees g f (x ∷ []) → In (root_of f) (places_in f)
 root_in g none x ag = absurd ag
 root_in g (node p r c kids rest) x ag = inl refl
 
@@ -72,14 +72,14 @@ module _ {V : Type 0} (g : Grammar) (m : Archive V) (so : Sound g) (ps : List (O
     nodes = λ p n e. absurd (some_none (at (map no_place ps) p) n (blank_at ps p) e);
   }
 
-  others_free : (p : ℕ) → (In p (all_places_lem f) → ⊥) → at r.places p ≡ None
+  others_free : (p : ℕ) → (In p (places_in f) → ⊥) → at r.places p ≡ None
   others_free p n = la.others p n ∙ blank_at ps p
 
-  alone : (p : ℕ) → In p (all_places (opened g f)) → In p (all_places_lem f)
-  alone p n = elim (in_cases p (all_places_lem f) [] n) [ inl h ↦ h | inr h ↦ absurd h ]
+  alone : (p : ℕ) → In p (all_places (opened g f)) → In p (places_in f)
+  alone p n = elim (in_cases p (places_in f) [] n) [ inl h ↦ h | inr h ↦ absurd h ]
 
   tree_opened : tree_of g r ≡ f
-  tree_opened = ap (tree_at_lem (table g r.places) 63) root_is ∙ la.tree_there
+  tree_opened = ap (tree_from (table g r.places) 63) root_is ∙ la.tree_there
 
   shows_opened : ShowsBook g m r (opened g f)
   shows_opened = record {
@@ -88,9 +88,9 @@ module _ {V : Type 0} (g : Grammar) (m : Archive V) (so : Sound g) (ps : List (O
     in_table = λ p n. subst (λ l. p < l) (sym la.long) (la.inside p (alone p n));
     free_places = λ p. (
       (λ z n. let b = la.new_nodes p (alone p n) in some_none (at r.places p) b.new z b.there),
-      λ h. others_free p (λ n. h (in_left p (all_places_lem f) [] n)),
+      λ h. others_free p (λ n. h (in_left p (places_in f) [] n)),
     );
-    no_place_twice = apart_append (all_places_lem f) [] la.apart tt (λ p n k. k);
+    no_place_twice = apart_append (places_in f) [] la.apart tt (λ p n k. k);
   }
 
   -- a tree laid into freed places makes the table right, with the tree as the book's
@@ -100,7 +100,7 @@ module _ {V : Type 0} (g : Grammar) (m : Archive V) (so : Sound g) (ps : List (O
     long = omega (arith, long, la.long, nv.size, blank_length ps);
     shows = shows_opened;
     marks = λ y n. elim (in_cases y (instances g f) [] n) [ inl w ↦ la.owed y w ∙ sym (some_in y (instances g f) w) | inr w ↦ absurd w ];
-    steady = λ y li n. absurd (elim (in_either y.0 (all_places_lem f)) [
+    steady = λ y li n. absurd (elim (in_either y.0 (places_in f)) [
       | inl w ↦ n (new_owed g r.places y.0 y.1 (la.new_nodes y.0 w) li.attribute)
       | inr w ↦ false≢true (sym (ap is_some (others_free y.0 w)) ∙ li.place)
     ]);

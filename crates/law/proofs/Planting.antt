@@ -9,9 +9,9 @@ use Rattle.sheet.specs.Meaning.{Sound}
 use Rattle.tour.specs.Nodes.{Cell}
 use Rattle.tour.specs.Rules.{rule, symbol, no_attribute}
 use Rattle.tour.specs.Runs.{In, Apart}
-use Rattle.tour.specs.Shapes.{tree_at_lem}
+use Rattle.tour.specs.Shapes.{tree_from}
 use Rattle.tour.specs.Steady.{Live, Steady, Untouched}
-use Rattle.tour.specs.Trees.{Instance, Forest, Agrees, instances, all_places_lem, same_instance}
+use Rattle.tour.specs.Trees.{Instance, Forest, Agrees, instances, places_in, same_instance}
 use Rattle.tour.proofs.Incremental.{same_instance_lem}
 use Rattle.tour.proofs.Lists.{in_left, in_right, in_cases}
 use Rattle.tour.proofs.Places.{apart_parts, instance_place}
@@ -83,7 +83,7 @@ some_out x (y ∷ xs) n = or_from (same_instance x y) (some (same_instance x) xs
 
 -- the places and the instances of the held blocks
 abbrev pub held_places : Book → List ℕ
-held_places k = flat_map (λ e. all_places_lem e.block) k.held
+held_places k = flat_map (λ e. places_in e.block) k.held
 
 abbrev pub held_instances : Grammar → Book → List Instance
 held_instances g k = flat_map (λ e. instances g e.block) k.held
@@ -91,14 +91,14 @@ held_instances g k = flat_map (λ e. instances g e.block) k.held
 -- an instance of the book is at a place of the book
 pub book_place : (g : Grammar) (k : Book) (x : Instance) → In x (all_instances g k) → In x.0 (all_places k)
 book_place g k x m = elim (in_cases x (instances g k.tree) (held_instances g k) m) [
-  | inl a ↦ in_left x.0 (all_places_lem k.tree) (held_places k) (instance_place g x k.tree a)
+  | inl a ↦ in_left x.0 (places_in k.tree) (held_places k) (instance_place g x k.tree a)
   | inr b ↦ (let w = joined_in (λ (e : Entry). instances g e.block) k.held x b in
-      in_right x.0 (all_places_lem k.tree) (held_places k) (in_joined (λ (e : Entry). all_places_lem e.block) w.0 k.held x.0 w.1 (instance_place g x w.0.block w.2)))
+      in_right x.0 (places_in k.tree) (held_places k) (in_joined (λ (e : Entry). places_in e.block) w.0 k.held x.0 w.1 (instance_place g x w.0.block w.2)))
 ]
 
 module _ {V : Type 0} (g : Grammar) (m : Archive V) (so : Sound g) where
   -- entries of other places keep their values
-  pub value_same : (x : ℕ) (f : Forest) (vs ws : List V) → Agrees g f (x ∷ []) → NewValues m (instances g f) vs ws → (y : Instance) → (In y.0 (all_places_lem f) → ⊥) → value_at (m.leaf 0) ws y ≡ value_at (m.leaf 0) vs y
+  pub value_same : (x : ℕ) (f : Forest) (vs ws : List V) → Agrees g f (x ∷ []) → NewValues m (instances g f) vs ws → (y : Instance) → (In y.0 (places_in f) → ⊥) → value_at (m.leaf 0) ws y ≡ value_at (m.leaf 0) vs y
   value_same x f vs ws ag nv y n = elim (cases_lt y.1 16) [
     | inl l ↦ ap (λ z. cond (ltb y.1 16) z (m.leaf 0)) (nv.others (16 * y.0 + y.1) (m.leaf 0) (clash l))
     | inr h ↦ cond-false (ltb y.1 16) (get_or ws (16 * y.0 + y.1) (m.leaf 0)) (m.leaf 0) (le-ltb y.1 16 h) ∙ sym (cond-false (ltb y.1 16) (get_or vs (16 * y.0 + y.1) (m.leaf 0)) (m.leaf 0) (le-ltb y.1 16 h))
@@ -108,36 +108,36 @@ module _ {V : Type 0} (g : Grammar) (m : Archive V) (so : Sound g) where
       clash l z k e =
           let h = instance_small g so f (x ∷ []) ag z k in
           let s : z.0 ≡ y.0 = omega arith in
-          n (subst (λ p. In p (all_places_lem f)) s (instance_place g z f k))
+          n (subst (λ p. In p (places_in f)) s (instance_place g z f k))
 
   module _ (r r' : Rundown V) (k : Book) (t : Ticket) (x : ℕ) (f : Forest) (ri : Right g m r k) (ag : Agrees g f (x ∷ []))
       (la : LaidIn g r.places r'.places f) (nv : NewValues m (instances g f) r.values r'.values)
       (tick : t ≡ record { tag = r.tag; root = root_of f }) (tag_kept : r'.tag ≡ r.tag) (root_kept : r'.root ≡ r.root) where
     -- a place of the book was used, so it was not taken, and is as it was
-    old_apart : (p : ℕ) → In p (all_places k) → In p (all_places_lem f) → ⊥
+    old_apart : (p : ℕ) → In p (all_places k) → In p (places_in f) → ⊥
     old_apart p o n = (ri.shows.free_places p).0 (la.free_before p n) o
 
     old_place : (p : ℕ) → In p (all_places k) → at r'.places p ≡ at r.places p
     old_place p o = la.others p (old_apart p o)
 
-    old_tree : (root : ℕ) (h : Forest) → tree_at_lem (table g r.places) 63 root ≡ h → ((p : ℕ) → In p (all_places_lem h) → In p (all_places k)) → tree_at_lem (table g r'.places) 63 root ≡ h
+    old_tree : (root : ℕ) (h : Forest) → tree_from (table g r.places) 63 root ≡ h → ((p : ℕ) → In p (places_in h) → In p (all_places k)) → tree_from (table g r'.places) 63 root ≡ h
     old_tree root h e inn =
-        tree_at_same (table g r.places) (table g r'.places) root (λ p n. ap (cell_of g) (old_place p (inn p (subst (λ z. In p (all_places_lem z)) e n)))) ∙ e
+        tree_at_same (table g r.places) (table g r'.places) root (λ p n. ap (cell_of g) (old_place p (inn p (subst (λ z. In p (places_in z)) e n)))) ∙ e
 
-    blocks : (e : Entry) → In e (planted g k t f).held → (e.ticket.tag ≡ r'.tag) × (tree_at_lem (table g r'.places) 63 e.ticket.root ≡ e.block)
+    blocks : (e : Entry) → In e (planted g k t f).held → (e.ticket.tag ≡ r'.tag) × (tree_from (table g r'.places) 63 e.ticket.root ≡ e.block)
     blocks e (inl w) =
-        subst (λ (z : Entry). (z.ticket.tag ≡ r'.tag) × (tree_at_lem (table g r'.places) 63 z.ticket.root ≡ z.block)) (sym w)
-        (ap (λ (z : Ticket). z.tag) tick ∙ sym tag_kept, ap (λ (z : Ticket). tree_at_lem (table g r'.places) 63 z.root) tick ∙ la.tree_there)
+        subst (λ (z : Entry). (z.ticket.tag ≡ r'.tag) × (tree_from (table g r'.places) 63 z.ticket.root ≡ z.block)) (sym w)
+        (ap (λ (z : Ticket). z.tag) tick ∙ sym tag_kept, ap (λ (z : Ticket). tree_from (table g r'.places) 63 z.root) tick ∙ la.tree_there)
     blocks e (inr n) =
         let b = ri.shows.blocks_shown e n in
-        (b.0 ∙ sym tag_kept, old_tree e.ticket.root e.block b.1 (λ p h. in_right p (all_places_lem k.tree) (held_places k) (in_joined (λ (z : Entry). all_places_lem z.block) e k.held p n h)))
+        (b.0 ∙ sym tag_kept, old_tree e.ticket.root e.block b.1 (λ p h. in_right p (places_in k.tree) (held_places k) (in_joined (λ (z : Entry). places_in z.block) e k.held p n h)))
 
-    among : (p : ℕ) → In p (all_places (planted g k t f)) → In p (all_places_lem f) ⊎ In p (all_places k)
-    among p n = amid_cases (all_places_lem k.tree) (all_places_lem f) (held_places k) p n
+    among : (p : ℕ) → In p (all_places (planted g k t f)) → In p (places_in f) ⊎ In p (all_places k)
+    among p n = amid_cases (places_in k.tree) (places_in f) (held_places k) p n
 
     shows_planted : ShowsBook g m r' (planted g k t f)
     shows_planted = record {
-      tree_shown = ap (tree_at_lem (table g r'.places) 63) root_kept ∙ old_tree r.root k.tree ri.shows.tree_shown (λ p n. in_left p (all_places_lem k.tree) (held_places k) n);
+      tree_shown = ap (tree_from (table g r'.places) 63) root_kept ∙ old_tree r.root k.tree ri.shows.tree_shown (λ p n. in_left p (places_in k.tree) (held_places k) n);
       blocks_shown = blocks;
       in_table = λ p n. subst (λ l. p < l) (sym la.long) (elim (among p n) [ inl w ↦ la.inside p w | inr w ↦ ri.shows.in_table p w ]);
       free_places = λ p. (
@@ -145,9 +145,9 @@ module _ {V : Type 0} (g : Grammar) (m : Archive V) (so : Sound g) where
           | inl w ↦ (let b = la.new_nodes p w in some_none (at r'.places p) b.new z b.there)
           | inr w ↦ (ri.shows.free_places p).0 (sym (old_place p w) ∙ z) w
         ]),
-        λ h. la.others p (λ w. h (amid_new (all_places_lem k.tree) (all_places_lem f) (held_places k) p w)) ∙ (ri.shows.free_places p).1 (λ w. h (amid_old (all_places_lem k.tree) (all_places_lem f) (held_places k) p w)),
+        λ h. la.others p (λ w. h (amid_new (places_in k.tree) (places_in f) (held_places k) p w)) ∙ (ri.shows.free_places p).1 (λ w. h (amid_old (places_in k.tree) (places_in f) (held_places k) p w)),
       );
-      no_place_twice = amid_apart (all_places_lem k.tree) (all_places_lem f) (held_places k) ri.shows.no_place_twice la.apart (λ p n o. old_apart p o n);
+      no_place_twice = amid_apart (places_in k.tree) (places_in f) (held_places k) ri.shows.no_place_twice la.apart (λ p n o. old_apart p o n);
     }
 
     marks_planted : (y : Instance) → In y (all_instances g (planted g k t f)) → owed_at r'.places y ≡ (planted g k t f).owed y
@@ -163,10 +163,10 @@ module _ {V : Type 0} (g : Grammar) (m : Archive V) (so : Sound g) where
         or_false true = refl
         or_false false = refl
 
-    used_out : (p : ℕ) → used r.places p ≡ true → In p (all_places_lem f) → ⊥
+    used_out : (p : ℕ) → used r.places p ≡ true → In p (places_in f) → ⊥
     used_out p u n = false≢true (sym (ap is_some (la.free_before p n)) ∙ u)
 
-    untouched : (y : Instance) → Live g (table g r'.places) (used r'.places) y → (In y.0 (all_places_lem f) → ⊥) → Untouched (meaning m) g (table g r.places) (table g r'.places) (used r.places) (state_of (m.leaf 0) r.places r.values) (state_of (m.leaf 0) r'.places r'.values) y
+    untouched : (y : Instance) → Live g (table g r'.places) (used r'.places) y → (In y.0 (places_in f) → ⊥) → Untouched (meaning m) g (table g r.places) (table g r'.places) (used r.places) (state_of (m.leaf 0) r.places r.values) (state_of (m.leaf 0) r'.places r'.values) y
     untouched y li n =
         let e : at r'.places y.0 ≡ at r.places y.0 = la.others y.0 n in
         let c : table g r'.places y.0 ≡ table g r.places y.0 = ap (cell_of g) e in
@@ -188,9 +188,9 @@ module _ {V : Type 0} (g : Grammar) (m : Archive V) (so : Sound g) where
     steady_planted : Steady (meaning m) g (table g r'.places) (used r'.places) (state_of (m.leaf 0) r'.places r'.values)
     steady_planted =
         (steadiness V).changes (meaning m) g (table g r.places) (table g r'.places) (used r.places) (used r'.places)
-        (state_of (m.leaf 0) r.places r.values) (state_of (m.leaf 0) r'.places r'.values) (λ y li. by y li (in_either y.0 (all_places_lem f))) ri.steady
+        (state_of (m.leaf 0) r.places r.values) (state_of (m.leaf 0) r'.places r'.values) (λ y li. by y li (in_either y.0 (places_in f))) ri.steady
       where
-        by : (y : Instance) → Live g (table g r'.places) (used r'.places) y → In y.0 (all_places_lem f) ⊎ (In y.0 (all_places_lem f) → ⊥) → (owed_at r'.places y ≡ true) ⊎ Untouched (meaning m) g (table g r.places) (table g r'.places) (used r.places) (state_of (m.leaf 0) r.places r.values) (state_of (m.leaf 0) r'.places r'.values) y
+        by : (y : Instance) → Live g (table g r'.places) (used r'.places) y → In y.0 (places_in f) ⊎ (In y.0 (places_in f) → ⊥) → (owed_at r'.places y ≡ true) ⊎ Untouched (meaning m) g (table g r.places) (table g r'.places) (used r.places) (state_of (m.leaf 0) r.places r.values) (state_of (m.leaf 0) r'.places r'.values) y
         by y li (inl n) = inl (new_owed g r'.places y.0 y.1 (la.new_nodes y.0 n) li.attribute)
         by y li (inr n) = inr (untouched y li n)
 

@@ -48,17 +48,17 @@ module _ (σ : Grammar) where
       ((λ d. deeper p r c p' r' c' d kids rest kids' rest' k.0 m.0), m.1)
 
   -- the pieces of a tree tell its symbol
-  pub same_symbol_lem : (f h : Forest) (x y : ℕ) → Agrees σ f (x ∷ []) → Agrees σ h (y ∷ []) → pieces f ≡ pieces h → x ≡ y
-  same_symbol_lem none h x y ag ah e = absurd ag
-  same_symbol_lem (node p r c kids rest) none x y ag ah e = absurd ah
-  same_symbol_lem (node p r c kids rest) (node p' r' c' kids' rest') x y (l, s, ag, ag') (l', s', ah, ah') e =
+  pub same_symbol : (f h : Forest) (x y : ℕ) → Agrees σ f (x ∷ []) → Agrees σ h (y ∷ []) → pieces f ≡ pieces h → x ≡ y
+  same_symbol none h x y ag ah e = absurd ag
+  same_symbol (node p r c kids rest) none x y ag ah e = absurd ah
+  same_symbol (node p r c kids rest) (node p' r' c' kids' rest') x y (l, s, ag, ag') (l', s', ah, ah') e =
       let er : r ≡ r' = ap (λ z. z.0) (head_same (r, c) (r', c') (pieces kids ++ pieces rest) (pieces kids' ++ pieces rest') e) in
       sym s ∙ ap (λ z. (rule σ z).left) er ∙ s'
 
   -- trees with the same pieces go as deep
   pub pieces_within : (f h : Forest) (x y d : ℕ) → Agrees σ f (x ∷ []) → Agrees σ h (y ∷ []) → pieces f ≡ pieces h → Within f d → Within h d
   pieces_within f h x y d ag ah e w =
-      let s = same_symbol_lem f h x y ag ah e in
+      let s = same_symbol f h x y ag ah e in
       (within_row f h (y ∷ []) [] [] (subst (λ z. Agrees σ f (z ∷ [])) s ag) ah (ap (λ z. z ++ []) e)).0 d w
 
   -- a block that is not too deep has a tree that is not

@@ -11,13 +11,13 @@ use Rattle.law.specs.Histories.{Happens, Enters}
 use Rattle.law.specs.Histories.Event.{plant}
 use Rattle.law.specs.declared.decline.Decline.{Decline}
 use Rattle.law.proofs.Right.{Right}
-use Rattle.law.proofs.PlantingBlocks.{same_symbol_lem}
+use Rattle.law.proofs.PlantingBlocks.{same_symbol}
 use Rattle.law.proofs.Planting.{plant_right}
 
 -- a block has one tree at given places
 pub tree_at_places_one : (g : Grammar) (b : List Piece) (ps : List ℕ) (f h : Forest) → TreeAtPlaces g b ps f → TreeAtPlaces g b ps h → f ≡ h
 tree_at_places_one g b ps f h t u =
-    let s = same_symbol_lem g f h t.symbol u.symbol t.agrees u.agrees (t.block ∙ sym u.block) in
+    let s = same_symbol g f h t.symbol u.symbol t.agrees u.agrees (t.block ∙ sym u.block) in
     means_one g (u.symbol ∷ []) b ps f h
     (record { agrees = subst (λ x. Agrees g f (x ∷ [])) s t.agrees; block = t.block; at = t.in_places })
     (record { agrees = u.agrees; block = u.block; at = u.in_places })

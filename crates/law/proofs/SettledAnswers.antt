@@ -4,7 +4,7 @@ use Rattle.std.proofs.lemmas.Bool.{false≢true}
 use Rattle.grammar.specs.Model.{Grammar}
 use Rattle.sheet.specs.Meaning.{Sound}
 use Rattle.tour.specs.Runs.{In}
-use Rattle.tour.specs.Trees.{Instance, all_places_lem}
+use Rattle.tour.specs.Trees.{Instance, places_in}
 use Rattle.places.specs.Places.{at, attributes, cell_of}
 use Rattle.places.specs.Shape.{InShape, InTree}
 use Rattle.places.specs.declared.node.Node.{Node}
@@ -12,7 +12,7 @@ use Rattle.places.proofs.Trees.{trees_law}
 use Rattle.law.specs.Handed.{Archive, Rundown}
 use Rattle.law.specs.Conditions.{ShortValues, FewCells, UnmetInstance, Settled, Checks, passed, check}
 use Rattle.law.specs.Calls.{Question, Reading, HasAttribute, step_checks, place_checks, read_checks, Steps, Settles, Reads}
-use Rattle.law.specs.Calls.Question.{the_root, child, rule_at_lem, datum_at, value_at_lem}
+use Rattle.law.specs.Calls.Question.{the_root, child, rule_there, datum_at, value_there}
 use Rattle.law.specs.Book.{Book, cells_of, BookSettled}
 use Rattle.law.specs.Histories.Event.{step, settle, read}
 use Rattle.law.specs.Law.{in_tree, question_checks, ByBook}
@@ -56,28 +56,28 @@ module _ (g : Grammar) (so : Sound g) {V : Type 0} (m : Archive V) (r : Rundown 
   settle_by_book r' budget cells es (Err d) h = steps_by_book cells (Some d) h.0
 
   -- just the places of the book's tree are in the tree
-  pub in_tree_by_book : (p : ℕ) → InTree r.places r.root p ↔ In p (all_places_lem k.tree)
+  pub in_tree_by_book : (p : ℕ) → InTree r.places r.root p ↔ In p (places_in k.tree)
   in_tree_by_book p =
       let t = trees_law g r.places r.root ri.shape in
       let w = (t.trees r.root t.root_top).places_are p in
-      subst (λ f. InTree r.places r.root p ↔ In p (all_places_lem f)) ri.shows.tree_shown (w.1, w.0)
+      subst (λ f. InTree r.places r.root p ↔ In p (places_in f)) ri.shows.tree_shown (w.1, w.0)
 
   tables_by_book : (later : Checks) (o : Option Decline) → check (InShape g r.places r.root → ⊥) Shape (check (ShortValues r.places r.values) Tables later) o → later o
   tables_by_book later o c =
       skip (ShortValues r.places r.values) Tables later o long
       (skip (InShape g r.places r.root → ⊥) Shape (check (ShortValues r.places r.values) Tables later) o (λ n. n ri.shape) c)
 
-  places_by_book : (p : ℕ) (later others : Checks) (o : Option Decline) → (In p (all_places_lem k.tree) → later o → others o) → place_checks g m r p later o → in_tree g m k p others o
+  places_by_book : (p : ℕ) (later others : Checks) (o : Option Decline) → (In p (places_in k.tree) → later o → others o) → place_checks g m r p later o → in_tree g m k p others o
   places_by_book p later others o f c =
       let w = in_tree_by_book p in
-      keep_past (In p (all_places_lem k.tree) → ⊥) Absent later others o there
-      (rephrase (InTree r.places r.root p → ⊥) (In p (all_places_lem k.tree) → ⊥) Absent later o (λ n h. n (w.1 h)) (λ n h. n (w.0 h))
+      keep_past (In p (places_in k.tree) → ⊥) Absent later others o there
+      (rephrase (InTree r.places r.root p → ⊥) (In p (places_in k.tree) → ⊥) Absent later o (λ n h. n (w.1 h)) (λ n h. n (w.0 h))
       (tables_by_book (check (InTree r.places r.root p → ⊥) Absent later) o c))
     where
-      there : ((In p (all_places_lem k.tree) → ⊥) → ⊥) → later o → others o
-      there n h = elim (in_either p (all_places_lem k.tree)) [ inl w ↦ f w h | inr w ↦ absurd (n w) ]
+      there : ((In p (places_in k.tree) → ⊥) → ⊥) → later o → others o
+      there n h = elim (in_either p (places_in k.tree)) [ inl w ↦ f w h | inr w ↦ absurd (n w) ]
 
-  value_by_book : (p a : ℕ) (o : Option Decline) → In p (all_places_lem k.tree) → check (HasAttribute g (at r.places p) a → ⊥) Absent (check (Settled g r → ⊥) Unsettled passed) o → check (a < attributes g (cells_of k.tree p).rule → ⊥) Absent (check (BookSettled g k → ⊥) Unsettled passed) o
+  value_by_book : (p a : ℕ) (o : Option Decline) → In p (places_in k.tree) → check (HasAttribute g (at r.places p) a → ⊥) Absent (check (Settled g r → ⊥) Unsettled passed) o → check (a < attributes g (cells_of k.tree p).rule → ⊥) Absent (check (BookSettled g k → ⊥) Unsettled passed) o
   value_by_book p a o h c =
       let s = settled_by_book g so m r k ri in
       let t = (in_tree_by_book p).1 h in
@@ -90,9 +90,9 @@ module _ (g : Grammar) (so : Sound g) {V : Type 0} (m : Archive V) (r : Rundown 
   questions_by_book : (q : Question) (o : Option Decline) → read_checks g m r q o → question_checks g m k q o
   questions_by_book the_root o c = tables_by_book passed o c
   questions_by_book (child p n) o c = places_by_book p passed passed o (λ h w. w) c
-  questions_by_book (rule_at_lem p) o c = places_by_book p passed passed o (λ h w. w) c
+  questions_by_book (rule_there p) o c = places_by_book p passed passed o (λ h w. w) c
   questions_by_book (datum_at p) o c = places_by_book p passed passed o (λ h w. w) c
-  questions_by_book (value_at_lem p a) o c =
+  questions_by_book (value_there p a) o c =
       places_by_book p (check (HasAttribute g (at r.places p) a → ⊥) Absent (check (Settled g r → ⊥) Unsettled passed)) (check (a < attributes g (cells_of k.tree p).rule → ⊥) Absent (check (BookSettled g k → ⊥) Unsettled passed)) o
       (λ h w. value_by_book p a o h w) c
 

@@ -6,7 +6,7 @@ use Rattle.sheet.specs.Meaning.{Sound}
 use Rattle.tour.specs.Runs.{In, Apart, System, State, Run, Idle}
 use Rattle.tour.specs.Rules.{symbol}
 use Rattle.tour.specs.Incremental.{Settling}
-use Rattle.tour.specs.Trees.{Instance, Forest, same_instance, instances, all_places_lem}
+use Rattle.tour.specs.Trees.{Instance, Forest, same_instance, instances, places_in}
 use Rattle.tour.specs.Touring.{tour}
 use Rattle.tour.proofs.Incremental.{incremental}
 use Rattle.tour.proofs.Places.{apart_parts, instance_place}
@@ -25,12 +25,12 @@ use Rattle.law.proofs.SteppingCalls.{ExchangesKeep, call_right, history_right}
 use Rattle.law.proofs.SettledTree.{seen, seen_value, seen_owed, seen_same, argument_in, tree_ordered, seen_step, seen_run}
 
 -- what stands in a held block does not stand in the tree
-pub held_apart : (k : Book) → Apart (all_places k) → (t : Ticket) (f : Forest) → In (record { ticket = t; block = f }) k.held → (p : ℕ) → In p (all_places_lem k.tree) → In p (all_places_lem f) → ⊥
+pub held_apart : (k : Book) → Apart (all_places k) → (t : Ticket) (f : Forest) → In (record { ticket = t; block = f }) k.held → (p : ℕ) → In p (places_in k.tree) → In p (places_in f) → ⊥
 held_apart k once t f h p a b =
-    (apart_parts (all_places_lem k.tree) (held_places k) once).2 p a
-    (in_joined (λ (e : Entry). all_places_lem e.block) (record { ticket = t; block = f }) k.held p h b)
+    (apart_parts (places_in k.tree) (held_places k) once).2 p a
+    (in_joined (λ (e : Entry). places_in e.block) (record { ticket = t; block = f }) k.held p h b)
 
-no_instance : (g : Grammar) (f : Forest) (x : Instance) → (In x.0 (all_places_lem f) → ⊥) → is_instance g f x ≡ false
+no_instance : (g : Grammar) (f : Forest) (x : Instance) → (In x.0 (places_in f) → ⊥) → is_instance g f x ≡ false
 no_instance g f x n = some_out x (instances g f) (λ h. n (instance_place g x f h))
 
 or_none : (b : Bool) → (b || false) ≡ b
@@ -63,7 +63,7 @@ module _ (g : Grammar) (so : Sound g) {V : Type 0} (m : Archive V) where
   plant_seen : (r s : Rundown V) (k : Book) (b : List Piece) (t : Ticket) (f : Forest) → Right g m r k → Right g m s (planted g k t f) → Planted g m b r t s → TreeAtPlaces g b (taken r.places (length b)) f → seen g m k.tree r ≡ seen g m k.tree s
   plant_seen r s k b t f ri rs p at = seen_same g m k.tree r s values marks
     where
-      apart : (q : ℕ) → In q (all_places_lem k.tree) → In q (all_places_lem f) → ⊥
+      apart : (q : ℕ) → In q (places_in k.tree) → In q (places_in f) → ⊥
       apart q a c = held_apart (planted g k t f) rs.shows.no_place_twice t f (inl refl) q a c
 
       values : (x : Instance) → In x (instances g k.tree) → value_at (m.leaf 0) s.values x ≡ value_at (m.leaf 0) r.values x

@@ -7,9 +7,9 @@ use Rattle.tour.specs.Runs.{In, System, State, args, Step, Run}
 use Rattle.tour.specs.Rules.{rule}
 use Rattle.tour.specs.Trees.{Instance, same_instance, instances}
 use Rattle.tour.specs.Touring.{tour}
-use Rattle.tour.specs.Nodes.{Table, attributes_at_lem}
+use Rattle.tour.specs.Nodes.{Table, attributes_of}
 use Rattle.tour.specs.Results.{engine}
-use Rattle.tour.specs.Shapes.{tree_at_lem}
+use Rattle.tour.specs.Shapes.{tree_from}
 use Rattle.tour.specs.Steady.{Live, Steady}
 use Rattle.tour.specs.Engine.{live_below, Engine}
 use Rattle.tour.proofs.Engines.{engine_law}
@@ -142,7 +142,7 @@ module _ (g : Grammar) {V : Type 0} (m : Archive V) where
           let z : owed_at r.places (p, a) ≡ false = ap (λ o. owes (marks_in o) a) e ∙ owes_high (attributes g n.rule) n.marks a s l in
           ap (λ b. (b && not (same_instance (p, a) x)) || (c && takers_of g (table g r.places) x (p, a))) z ∙ by (cases_Bool (c && takers_of g (table g r.places) x (p, a)))
         where
-          there : attributes g n.rule ≡ length (attributes_at_lem g (table g r.places) p)
+          there : attributes g n.rule ≡ length (attributes_of g (table g r.places) p)
           there = ap (λ o. attributes g (cell_of g o).rule) (sym e)
 
           by : ((c && takers_of g (table g r.places) x (p, a)) ≡ true) ⊎ ((c && takers_of g (table g r.places) x (p, a)) ≡ false) → (c && takers_of g (table g r.places) x (p, a)) ≡ false
@@ -159,15 +159,15 @@ module _ (g : Grammar) {V : Type 0} (m : Archive V) where
 
       -- the engine is the same after the step
       pub engine_kept : engine_of r' ≡ engine_of r
-      engine_kept i = engine (meaning m) g (cells_kept i) (tree_at_lem (cells_kept i) 63 (st.root_kept i)) (live_below g (cells_kept i) (uses_kept i) (st.marks_are.long i))
+      engine_kept i = engine (meaning m) g (cells_kept i) (tree_from (cells_kept i) 63 (st.root_kept i)) (live_below g (cells_kept i) (uses_kept i) (st.marks_are.long i))
 
       shape_kept : InShape g r'.places r'.root
       shape_kept = subst (λ p. InShape g r'.places p) (sym st.root_kept) (remarked_shape g r.places r'.places st.marks_are r.root ri.shape none_past)
 
       shows_kept : ShowsBook g m r' (evaluated_once g k (x, c))
       shows_kept = record {
-        tree_shown = ap₂ (λ t p. tree_at_lem t 63 p) cells_kept st.root_kept ∙ ri.shows.tree_shown;
-        blocks_shown = λ e h. let b = ri.shows.blocks_shown e h in (b.0 ∙ sym st.tag_kept, ap (λ t. tree_at_lem t 63 e.ticket.root) cells_kept ∙ b.1);
+        tree_shown = ap₂ (λ t p. tree_from t 63 p) cells_kept st.root_kept ∙ ri.shows.tree_shown;
+        blocks_shown = λ e h. let b = ri.shows.blocks_shown e h in (b.0 ∙ sym st.tag_kept, ap (λ t. tree_from t 63 e.ticket.root) cells_kept ∙ b.1);
         in_table = λ p h. subst (λ n. p < n) (sym st.marks_are.long) (ri.shows.in_table p h);
         free_places = λ p. let a = remarked_free g r.places r'.places st.marks_are p in let b = ri.shows.free_places p in ((λ h. b.0 (a.0 h)), λ n. a.1 (b.1 n));
         no_place_twice = ri.shows.no_place_twice;

@@ -6,7 +6,7 @@ use Rattle.std.specs.List.{flat_map}
 use Rattle.grammar.specs.Model.{Grammar}
 use Rattle.grammar.specs.Tests.{some}
 use Rattle.tour.specs.Runs.{In}
-use Rattle.tour.specs.Trees.{Instance, Forest, Agrees, places, all_places_lem, instances, same_instance}
+use Rattle.tour.specs.Trees.{Instance, Forest, Agrees, places, places_in, instances, same_instance}
 use Rattle.tour.specs.Trees.Forest.{none, node}
 use Rattle.tour.specs.Nodes.{Link, Cell, Table, above}
 use Rattle.tour.specs.Nodes.Link.{top, under}
@@ -27,7 +27,7 @@ pub record Book : Type 0 where
   pub owed : Instance → Bool
 
 abbrev pub all_places : Book → List ℕ
-all_places k = all_places_lem k.tree ++ flat_map (λ e. all_places_lem e.block) k.held
+all_places k = places_in k.tree ++ flat_map (λ e. places_in e.block) k.held
 
 abbrev pub all_instances : Grammar → Book → List Instance
 all_instances g k = instances g k.tree ++ flat_map (λ e. instances g e.block) k.held
@@ -124,4 +124,4 @@ pub record TreeAtPlaces (g : Grammar) (b : List Piece) (ps : List ℕ) (f : Fore
   pub symbol : ℕ
   pub agrees : Agrees g f (symbol ∷ [])
   pub block : pieces f ≡ b
-  pub in_places : all_places_lem f ≡ ps
+  pub in_places : places_in f ≡ ps

@@ -4,7 +4,7 @@ use Rattle.std.specs.Prelude.{◌≡◌, ℕ, zero, suc, ◌+◌, ◌-◌, ◌*�
 use Rattle.grammar.specs.Model.{Grammar}
 use Rattle.tour.specs.Runs.{In}
 use Rattle.tour.specs.Rules.{rule}
-use Rattle.tour.specs.Trees.{Instance, Forest, Agrees, instances, all_places_lem, same_instance}
+use Rattle.tour.specs.Trees.{Instance, Forest, Agrees, instances, places_in, same_instance}
 use Rattle.tour.specs.Touring.{tour}
 use Rattle.tour.specs.Results.{result}
 use Rattle.tour.specs.Blocks.{pieces}
@@ -27,7 +27,7 @@ use Rattle.law.specs.declared.decline.Decline.TheVariants.{Function, Tables, Len
 pub record NewTree (g : Grammar) (x : ℕ) (b : List Piece) (ps qs : List (Option Node)) (f : Forest) : Type 0 where
   pub agrees : Agrees g f (x ∷ [])
   pub block : pieces f ≡ b
-  pub in_places : all_places_lem f ≡ taken ps (length b)
+  pub in_places : places_in f ≡ taken ps (length b)
   pub table_is : qs ≡ laid g f None ps
 
 -- the values of these instances are the leaf of 0, and no other entry is altered
@@ -40,7 +40,7 @@ abbrev pub no_place : Option Node → Option Node
 no_place x = None
 
 abbrev pub root_of : Forest → ℕ
-root_of f = slice_index (all_places_lem f) 0
+root_of f = slice_index (places_in f) 0
 
 module _ {V : Type 0} (g : Grammar) (m : Archive V) where
   -- OPEN
@@ -187,9 +187,9 @@ module _ {V : Type 0} (g : Grammar) (m : Archive V) where
 pub data Question : Type 0 where
   the_root : Question
   child : (place position : ℕ) → Question
-  rule_at_lem : (place : ℕ) → Question
+  rule_there : (place : ℕ) → Question
   datum_at : (place : ℕ) → Question
-  value_at_lem : (place attribute : ℕ) → Question
+  value_there : (place attribute : ℕ) → Question
 
 pub data Reading (V : Type 0) : Type 0 where
   at_place : ℕ → Reading V
@@ -223,16 +223,16 @@ module _ {V : Type 0} (g : Grammar) (m : Archive V) where
   abbrev pub read_checks : Rundown V → Question → Checks
   read_checks r the_root = rundown_checks g m r (value_checks g m r passed)
   read_checks r (child p k) = place_checks r p passed
-  read_checks r (rule_at_lem p) = place_checks r p passed
+  read_checks r (rule_there p) = place_checks r p passed
   read_checks r (datum_at p) = place_checks r p passed
-  read_checks r (value_at_lem p a) = place_checks r p (check (HasAttribute g (at r.places p) a → ⊥) Absent (check (Settled g r → ⊥) Unsettled passed))
+  read_checks r (value_there p a) = place_checks r p (check (HasAttribute g (at r.places p) a → ⊥) Absent (check (Settled g r → ⊥) Unsettled passed))
 
   abbrev pub reading : Rundown V → Question → Reading V
   reading r the_root = at_place r.root
   reading r (child p k) = child_in g (at r.places p) k
-  reading r (rule_at_lem p) = number (rule_in (at r.places p))
+  reading r (rule_there p) = number (rule_in (at r.places p))
   reading r (datum_at p) = number (datum_in (at r.places p))
-  reading r (value_at_lem p a) = value_is (value_at (m.leaf 0) r.values (p, a))
+  reading r (value_there p a) = value_is (value_at (m.leaf 0) r.values (p, a))
 
   -- a reader changes nothing
   abbrev pub Reads : Question → Rundown V → Result (Reading V) Decline → Type 0

@@ -6,7 +6,7 @@ use Rattle.tour.specs.Rules.{rule}
 use Rattle.tour.specs.Runs.{In}
 use Rattle.tour.specs.Trees.{Instance, Forest, Agrees, instances}
 use Rattle.tour.specs.Touring.{tour}
-use Rattle.tour.specs.Shapes.{tree_at_lem}
+use Rattle.tour.specs.Shapes.{tree_from}
 use Rattle.tour.specs.Walks.{Within}
 use Rattle.tour.specs.Blocks.{pieces}
 use Rattle.places.specs.Places.{at, used, table, owed_at}
@@ -17,9 +17,9 @@ use Rattle.law.specs.declared.decline.Decline.{Decline}
 
 -- an equation of the sheet whose function the archive does not have with as many arguments
 pub record Lacking {V : Type 0} (g : Grammar) (m : Archive V) : Type 0 where
-  pub rule_number_lem : ℕ
+  pub rule_number : ℕ
   pub rule_there : Rule
-  pub rule_stands : slice_get g.rules rule_number_lem ≡ Some rule_there
+  pub rule_stands : slice_get g.rules rule_number ≡ Some rule_there
   pub equation_number : ℕ
   pub equation : Equation
   pub equation_stands : slice_get rule_there.equations equation_number ≡ Some equation
@@ -74,7 +74,7 @@ pub record ResultTooDeep (ps : List (Option Node)) (h p : ℕ) : Type 0 where
 
 -- the tree that a table shows at its root
 abbrev pub tree_of : {V : Type 0} → Grammar → Rundown V → Forest
-tree_of g r = tree_at_lem (table g r.places) 63 r.root
+tree_of g r = tree_from (table g r.places) 63 r.root
 
 -- an owed instance of the tree that the tour does not meet
 pub record UnmetInstance {V : Type 0} (g : Grammar) (r : Rundown V) : Type 0 where

@@ -6,16 +6,16 @@ use Rattle.grammar.specs.Model.{Grammar}
 use Rattle.sheet.specs.Meaning.{Sound}
 use Rattle.tour.specs.Runs.{In, Apart, System, args}
 use Rattle.tour.specs.Rules.{rule}
-use Rattle.tour.specs.Trees.{Instance, Forest, all_places_lem, instances, same_instance}
+use Rattle.tour.specs.Trees.{Instance, Forest, places_in, instances, same_instance}
 use Rattle.tour.specs.Fresh.{fresh}
 use Rattle.tour.specs.Touring.{tour}
 use Rattle.tour.specs.Results.{result, engine}
-use Rattle.tour.specs.Shapes.{tree_at_lem}
+use Rattle.tour.specs.Shapes.{tree_from}
 use Rattle.places.specs.Places.{at, table, owed_at, value_at, attributes}
 use Rattle.law.specs.Handed.{Archive, Rundown, Ticket, Piece, meaning}
 use Rattle.law.specs.Conditions.{ShortValues, FewCells, BadLength, Formless, TooDeep, TooFew, Checks, passed, check, tree_of}
 use Rattle.law.specs.Calls.{Opens, Question}
-use Rattle.law.specs.Calls.Question.{the_root, child, rule_at_lem, datum_at, value_at_lem}
+use Rattle.law.specs.Calls.Question.{the_root, child, rule_there, datum_at, value_there}
 use Rattle.law.specs.Book.{Entry, Book, all_places, all_instances, opened, cells_of, depth_in, height, BookSettled, TreeAtPlaces}
 use Rattle.law.specs.Histories.{Event, History, Happens, Keeps, NoDrop, evaluated_in, counted_in}
 use Rattle.law.specs.Histories.Event.{plant, drop, discard, step, settle, read}
@@ -36,7 +36,7 @@ module _ {V : Type 0} (g : Grammar) (m : Archive V) where
   -- places are all others, and no place counts twice
   pub record ShowsBook (r : Rundown V) (k : Book) : Type 0 where
     pub tree_shown : tree_of g r ≡ k.tree
-    pub blocks_shown : (e : Entry) → In e k.held → (e.ticket.tag ≡ r.tag) × (tree_at_lem (table g r.places) 63 e.ticket.root ≡ e.block)
+    pub blocks_shown : (e : Entry) → In e k.held → (e.ticket.tag ≡ r.tag) × (tree_from (table g r.places) 63 e.ticket.root ≡ e.block)
     pub in_table : (p : ℕ) → In p (all_places k) → p < length r.places
     pub free_places : (p : ℕ) → (at r.places p ≡ None) ↔ (In p (all_places k) → ⊥)
     pub no_place_twice : Apart (all_places k)
@@ -78,14 +78,14 @@ module _ {V : Type 0} (g : Grammar) (m : Archive V) where
   DepthPassed k t p = (f : Forest) × In (record { ticket = t; block = f }) k.held × (64 < (depth_in p k.tree - 1) + height f)
 
   abbrev pub in_tree : Book → ℕ → Checks → Checks
-  in_tree k p later = check (In p (all_places_lem k.tree) → ⊥) Absent later
+  in_tree k p later = check (In p (places_in k.tree) → ⊥) Absent later
 
   abbrev pub question_checks : Book → Question → Checks
   question_checks k the_root = passed
   question_checks k (child p n) = in_tree k p passed
-  question_checks k (rule_at_lem p) = in_tree k p passed
+  question_checks k (rule_there p) = in_tree k p passed
   question_checks k (datum_at p) = in_tree k p passed
-  question_checks k (value_at_lem p a) = in_tree k p (check (a < attributes g (cells_of k.tree p).rule → ⊥) Absent (check (BookSettled g k → ⊥) Unsettled passed))
+  question_checks k (value_there p a) = in_tree k p (check (a < attributes g (cells_of k.tree p).rule → ⊥) Absent (check (BookSettled g k → ⊥) Unsettled passed))
 
   abbrev pub ByBook : Rundown V → Book → Event V → Type 0
   ByBook r k (plant b cells ps answer) =
@@ -97,7 +97,7 @@ module _ {V : Type 0} (g : Grammar) (m : Archive V) where
       (declined answer)
   ByBook r k (drop t p answer) =
       check (Unspent k t → ⊥) Ticket-declined
-      (check (In p (all_places_lem k.tree) → ⊥) Target
+      (check (In p (places_in k.tree) → ⊥) Target
       (check (SymbolsDiffer k t p) Symbol
       (check (DepthPassed k t p) Depth passed)))
       (declined_back answer)

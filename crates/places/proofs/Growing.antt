@@ -5,8 +5,8 @@ use Rattle.tour.specs.Nodes.{Link, Table, Shows, above}
 use Rattle.tour.specs.Nodes.Link.{top, under}
 use Rattle.tour.specs.Rules.{rule}
 use Rattle.tour.specs.Runs.{In, Apart}
-use Rattle.tour.specs.Shapes.{row_of, grow, tree_at_lem}
-use Rattle.tour.specs.Trees.{Forest, places, Agrees, all_places_lem}
+use Rattle.tour.specs.Shapes.{row_of, grow, tree_from}
+use Rattle.tour.specs.Trees.{Forest, places, Agrees, places_in}
 use Rattle.tour.specs.Trees.Forest.{none}
 use Rattle.tour.specs.Walks.{Within}
 use Rattle.tour.proofs.Lists.{in_left, in_right, in_cases}
@@ -120,16 +120,16 @@ module _ (σ : Grammar) (T : Table) (used : ℕ → Bool) (sh : Ranked σ T used
   below_more x q u k m uq l b = record { used' = b.used'; way = under_more T m x q u k b.way l; deeper = omega (arith, b.deeper, sh.kid_depth q u k uq l) }
 
   -- what stands in a row stands below one of its places
-  in_row : (d x : ℕ) (ps : List ℕ) → ((k : ℕ) → k < length ps → used (get_or ps k 0) ≡ true) → ((k : ℕ) → k < length ps → In x (all_places_lem (grow T d (get_or ps k 0))) → (m : ℕ) × Below x (get_or ps k 0) (suc m)) → In x (all_places_lem (row_of T (grow T d) ps)) → (k : ℕ) × (k < length ps) × ((m : ℕ) × Below x (get_or ps k 0) m)
+  in_row : (d x : ℕ) (ps : List ℕ) → ((k : ℕ) → k < length ps → used (get_or ps k 0) ≡ true) → ((k : ℕ) → k < length ps → In x (places_in (grow T d (get_or ps k 0))) → (m : ℕ) × Below x (get_or ps k 0) (suc m)) → In x (places_in (row_of T (grow T d) ps)) → (k : ℕ) × (k < length ps) × ((m : ℕ) × Below x (get_or ps k 0) m)
   in_row d x [] u f m = absurd m
   in_row d x (q ∷ ps) u f (inl e) = (0, omega arith, (0, subst (λ z. Below z q 0) (sym e) (itself q (u 0 (omega arith)))))
-  in_row d x (q ∷ ps) u f (inr m) = go (in_cases x (all_places_lem (grow T d q)) (all_places_lem (row_of T (grow T d) ps)) m) (in_row d x ps (λ k h. u (suc k) (omega arith)) (λ k h. f (suc k) (omega arith)))
+  in_row d x (q ∷ ps) u f (inr m) = go (in_cases x (places_in (grow T d q)) (places_in (row_of T (grow T d) ps)) m) (in_row d x ps (λ k h. u (suc k) (omega arith)) (λ k h. f (suc k) (omega arith)))
     where
-      go : In x (all_places_lem (grow T d q)) ⊎ In x (all_places_lem (row_of T (grow T d) ps)) → (In x (all_places_lem (row_of T (grow T d) ps)) → (k : ℕ) × (k < length ps) × ((m : ℕ) × Below x (get_or ps k 0) m)) → (k : ℕ) × (k < length (q ∷ ps)) × ((m : ℕ) × Below x (get_or (q ∷ ps) k 0) m)
+      go : In x (places_in (grow T d q)) ⊎ In x (places_in (row_of T (grow T d) ps)) → (In x (places_in (row_of T (grow T d) ps)) → (k : ℕ) × (k < length ps) × ((m : ℕ) × Below x (get_or ps k 0) m)) → (k : ℕ) × (k < length (q ∷ ps)) × ((m : ℕ) × Below x (get_or (q ∷ ps) k 0) m)
       go (inl w) g = let r = f 0 (omega arith) w in (0, omega arith, (suc r.0, r.1))
       go (inr w) g = let r = g w in (suc r.0, omega (arith, r.1), r.2)
 
-  in_grow : (d x q : ℕ) → used q ≡ true → In x (all_places_lem (grow T d q)) → (m : ℕ) × Below x q (suc m)
+  in_grow : (d x q : ℕ) → used q ≡ true → In x (places_in (grow T d q)) → (m : ℕ) × Below x q (suc m)
   in_grow zero x q u m = absurd m
   in_grow (suc d) x q u m =
       let r = in_row d x (T q).kids (λ k h. sh.kid_used q k u h) (λ k h. in_grow d x (get_or (T q).kids k 0) (sh.kid_used q k u h)) m in
@@ -144,12 +144,12 @@ module _ (σ : Grammar) (T : Table) (used : ℕ → Bool) (sh : Ranked σ T used
       let same : n ≡ m = omega (arith, b.deeper, c.deeper) in
       under_one T m x p q b.way (subst (λ z. Under T z x q) same c.way)
 
-  row_apart : (d n : ℕ) → ((q : ℕ) → used q ≡ true → Apart (all_places_lem (grow T d q))) → (ps xs : List ℕ) (p i : ℕ) → Row p i n ps xs → Apart (all_places_lem (row_of T (grow T d) ps))
+  row_apart : (d n : ℕ) → ((q : ℕ) → used q ≡ true → Apart (places_in (grow T d q))) → (ps xs : List ℕ) (p i : ℕ) → Row p i n ps xs → Apart (places_in (row_of T (grow T d) ps))
   row_apart d n below [] xs p i r = tt
   row_apart d n below (q ∷ ps) [] p i r = absurd (let l = r.long in omega arith)
   row_apart d n below (q ∷ ps) (x ∷ xs) p i r = (
-    (λ m. elim (in_cases q (all_places_lem (grow T d q)) (all_places_lem (row_of T (grow T d) ps)) m) [ inl w ↦ (let b = in_grow d q q uq w in not_itself q b.0 b.1) | inr w ↦ other q 0 (itself q uq) (inner q w) ]),
-    apart_append (all_places_lem (grow T d q)) (all_places_lem (row_of T (grow T d) ps)) (below q uq) (row_apart d n below ps xs p (suc i) tail)
+    (λ m. elim (in_cases q (places_in (grow T d q)) (places_in (row_of T (grow T d) ps)) m) [ inl w ↦ (let b = in_grow d q q uq w in not_itself q b.0 b.1) | inr w ↦ other q 0 (itself q uq) (inner q w) ]),
+    apart_append (places_in (grow T d q)) (places_in (row_of T (grow T d) ps)) (below q uq) (row_apart d n below ps xs p (suc i) tail)
         (λ y a b. let w = in_grow d y q uq a in other y (suc w.0) w.1 (inner y b)),
   )
     where
@@ -162,7 +162,7 @@ module _ (σ : Grammar) (T : Table) (used : ℕ → Bool) (sh : Ranked σ T used
       tail : Row p (suc i) n ps xs
       tail = row_tail p i n q x ps xs r
 
-      inner : (y : ℕ) → In y (all_places_lem (row_of T (grow T d) ps)) → (k : ℕ) × (k < length ps) × ((m : ℕ) × Below y (get_or ps k 0) m)
+      inner : (y : ℕ) → In y (places_in (row_of T (grow T d) ps)) → (k : ℕ) × (k < length ps) × ((m : ℕ) × Below y (get_or ps k 0) m)
       inner y = in_row d y ps tail.used_there (λ k l. in_grow d y (get_or ps k 0) (tail.used_there k l))
 
       other : (y m : ℕ) → Below y q m → (k : ℕ) × (k < length ps) × ((j : ℕ) × Below y (get_or ps k 0) j) → ⊥
@@ -171,7 +171,7 @@ module _ (σ : Grammar) (T : Table) (used : ℕ → Bool) (sh : Ranked σ T used
           let pos = same_position (T q).link p (i + 0) p (suc i + k) (r.link_there 0 h) (ap (λ z. (T z).link) same ∙ tail.link_there k l) in
           omega arith
 
-  grow_apart : (d p : ℕ) → used p ≡ true → Apart (all_places_lem (grow T d p))
+  grow_apart : (d p : ℕ) → used p ≡ true → Apart (places_in (grow T d p))
   grow_apart zero p u = tt
   grow_apart (suc d) p u = row_apart d (suc (sh.depth p)) (λ q uq. grow_apart d q uq) (T p).kids (rule σ (T p).rule).right p 1 (kids_row p u)
 
@@ -180,30 +180,30 @@ module _ (σ : Grammar) (T : Table) (used : ℕ → Bool) (sh : Ranked σ T used
   split zero x p u (v, k, e, r) = (x, k, u, e ∙ ap (λ z. under z k) r, refl)
   split (suc m) x p u (v, k, e, r) = let s = split m v p (sh.link_used x v k u e) r in (s.0, s.1, s.2, s.3, (v, k, e, s.4))
 
-  row_in : (d x : ℕ) (ps : List ℕ) (j : ℕ) → j < length ps → (x ≡ get_or ps j 0) ⊎ In x (all_places_lem (grow T d (get_or ps j 0))) → In x (all_places_lem (row_of T (grow T d) ps))
+  row_in : (d x : ℕ) (ps : List ℕ) (j : ℕ) → j < length ps → (x ≡ get_or ps j 0) ⊎ In x (places_in (grow T d (get_or ps j 0))) → In x (places_in (row_of T (grow T d) ps))
   row_in d x [] j l h = absurd (omega arith)
   row_in d x (q ∷ ps) zero l (inl e) = inl e
-  row_in d x (q ∷ ps) zero l (inr m) = inr (in_left x (all_places_lem (grow T d q)) (all_places_lem (row_of T (grow T d) ps)) m)
-  row_in d x (q ∷ ps) (suc j) l h = inr (in_right x (all_places_lem (grow T d q)) (all_places_lem (row_of T (grow T d) ps)) (row_in d x ps j (omega arith) h))
+  row_in d x (q ∷ ps) zero l (inr m) = inr (in_left x (places_in (grow T d q)) (places_in (row_of T (grow T d) ps)) m)
+  row_in d x (q ∷ ps) (suc j) l h = inr (in_right x (places_in (grow T d q)) (places_in (row_of T (grow T d) ps)) (row_in d x ps j (omega arith) h))
 
   -- what stands not too far below p stands in the trees below it
-  reach : (d m x p : ℕ) → m < d → used x ≡ true → Under T (suc m) x p → In x (all_places_lem (grow T d p))
+  reach : (d m x p : ℕ) → m < d → used x ≡ true → Under T (suc m) x p → In x (places_in (grow T d p))
   reach zero m x p h u w = absurd (omega arith)
   reach (suc d) m x p h u w =
       let s = split m x p u w in
       let c = sh.link_kid s.0 p s.1 s.2 s.3 in
-      row_in d x (T p).kids c.0 c.1 (subst (λ q. (x ≡ q) ⊎ In x (all_places_lem (grow T d q))) (sym c.2) (next m s.0 (omega arith) s.4 (λ n l. reach d n x s.0 l u)))
+      row_in d x (T p).kids c.0 c.1 (subst (λ q. (x ≡ q) ⊎ In x (places_in (grow T d q))) (sym c.2) (next m s.0 (omega arith) s.4 (λ n l. reach d n x s.0 l u)))
     where
-      next : (n q : ℕ) → n < suc d → Under T n x q → ((k : ℕ) → k < d → Under T (suc k) x q → In x (all_places_lem (grow T d q))) → (x ≡ q) ⊎ In x (all_places_lem (grow T d q))
+      next : (n q : ℕ) → n < suc d → Under T n x q → ((k : ℕ) → k < d → Under T (suc k) x q → In x (places_in (grow T d q))) → (x ≡ q) ⊎ In x (places_in (grow T d q))
       next zero q l r f = inl r
       next (suc n) q l r f = inr (f n (omega arith) r)
 
   -- the tree at a top
   pub record TreeAt (t : ℕ) : Type 0 where
-    pub shown : Shows T (tree_at_lem T 63 t) above 0
-    pub agrees : Agrees σ (tree_at_lem T 63 t) ((rule σ (T t).rule).left ∷ [])
-    pub apart : Apart (all_places_lem (tree_at_lem T 63 t))
-    pub within : Within (tree_at_lem T 63 t) 64
+    pub shown : Shows T (tree_from T 63 t) above 0
+    pub agrees : Agrees σ (tree_from T 63 t) ((rule σ (T t).rule).left ∷ [])
+    pub apart : Apart (places_in (tree_from T 63 t))
+    pub within : Within (tree_from T 63 t) 64
 
   pub tree_grown : (t : ℕ) → used t ≡ true → (T t).link ≡ top → sh.depth t ≡ 1 → TreeAt t
   tree_grown t u l e =
@@ -212,17 +212,17 @@ module _ (σ : Grammar) (T : Table) (used : ℕ → Bool) (sh : Ranked σ T used
         shown = (refl, refl, g.roots, l, g.shown, tt);
         agrees = (sh.rules t u, refl, g.agrees, tt);
         apart = (
-          (λ m. elim (in_cases t (all_places_lem (grow T 63 t)) [] m) [ inl w ↦ (let b = in_grow 63 t t u w in not_itself t b.0 b.1) | inr w ↦ w ]),
-          apart_append (all_places_lem (grow T 63 t)) [] (grow_apart 63 t u) tt (λ x m k. k),
+          (λ m. elim (in_cases t (places_in (grow T 63 t)) [] m) [ inl w ↦ (let b = in_grow 63 t t u w in not_itself t b.0 b.1) | inr w ↦ w ]),
+          apart_append (places_in (grow T 63 t)) [] (grow_apart 63 t u) tt (λ x m k. k),
         );
         within = (g.within, tt);
       }
 
   -- its places are those below it
-  pub tree_below : (t x : ℕ) → used t ≡ true → In x (all_places_lem (tree_at_lem T 63 t)) → (m : ℕ) × Below x t m
+  pub tree_below : (t x : ℕ) → used t ≡ true → In x (places_in (tree_from T 63 t)) → (m : ℕ) × Below x t m
   tree_below t x u (inl e) = (0, subst (λ z. Below z t 0) (sym e) (itself t u))
-  tree_below t x u (inr m) = elim (in_cases x (all_places_lem (grow T 63 t)) [] m) [ inl w ↦ (let b = in_grow 63 x t u w in (suc b.0, b.1)) | inr w ↦ absurd w ]
+  tree_below t x u (inr m) = elim (in_cases x (places_in (grow T 63 t)) [] m) [ inl w ↦ (let b = in_grow 63 x t u w in (suc b.0, b.1)) | inr w ↦ absurd w ]
 
-  pub below_tree : (t x m : ℕ) → m ≤ 63 → used x ≡ true → Under T m x t → In x (all_places_lem (tree_at_lem T 63 t))
+  pub below_tree : (t x m : ℕ) → m ≤ 63 → used x ≡ true → Under T m x t → In x (places_in (tree_from T 63 t))
   below_tree t x zero h u w = inl w
-  below_tree t x (suc m) h u w = inr (in_left x (all_places_lem (grow T 63 t)) [] (reach 63 m x t (omega arith) u w))
+  below_tree t x (suc m) h u w = inr (in_left x (places_in (grow T 63 t)) [] (reach 63 m x t (omega arith) u w))

@@ -6,11 +6,11 @@ use Rattle.tour.specs.Nodes.{Link, Table, Shows, above, Planted}
 use Rattle.tour.specs.Nodes.Link.{under}
 use Rattle.tour.specs.Rules.{rule, symbol}
 use Rattle.tour.specs.Runs.{In, Idle}
-use Rattle.tour.specs.Nodes.{attributes_at_lem}
+use Rattle.tour.specs.Nodes.{attributes_of}
 use Rattle.sheet.specs.Meaning.{Sound}
 use Rattle.tour.specs.Results.{Meaning}
 use Rattle.tour.specs.Touring.{tour}
-use Rattle.tour.specs.Trees.{Forest, row, instances, all_places_lem}
+use Rattle.tour.specs.Trees.{Forest, row, instances, places_in}
 use Rattle.tour.specs.Trees.Forest.{none, node}
 use Rattle.tour.proofs.Lists.{in_left, in_right, in_cases}
 use Rattle.tour.proofs.Places.{instance_place}
@@ -34,7 +34,7 @@ row_there p i zero a l h = absurd (omega arith)
 row_there p i (suc n) a l h = elim (le_cases i a l) [ inl e ↦ inl (ap (λ z. (p, z)) (sym e)) | inr m ↦ inr (row_there p (suc i) n a m (omega arith)) ]
 
 -- each attribute of each place of shown trees is an instance of them
-shown_instance : (σ : Grammar) (T : Table) (p a : ℕ) (f : Forest) (up : ℕ → Link) (i : ℕ) → Shows T f up i → a < length (attributes_at_lem σ T p) → In p (all_places_lem f) → In (p, a) (instances σ f)
+shown_instance : (σ : Grammar) (T : Table) (p a : ℕ) (f : Forest) (up : ℕ → Link) (i : ℕ) → Shows T f up i → a < length (attributes_of σ T p) → In p (places_in f) → In (p, a) (instances σ f)
 shown_instance σ T p a none up i sh h m = absurd m
 shown_instance σ T p a (node q r c kids rest) up i (er, ec, ek, el, sk, sr) h (inl e) =
     in_left (p, a) (row q 0 (length (symbol σ (rule σ r).left).attributes)) (instances σ kids ++ instances σ rest)
@@ -42,7 +42,7 @@ shown_instance σ T p a (node q r c kids rest) up i (er, ec, ek, el, sk, sr) h (
     (row_there q 0 (length (symbol σ (rule σ r).left).attributes) a (omega arith) (subst (λ z. a < 0 + length (symbol σ (rule σ z).left).attributes) (ap (λ z. (T z).rule) e ∙ er) (omega arith))))
 shown_instance σ T p a (node q r c kids rest) up i (er, ec, ek, el, sk, sr) h (inr m) =
     in_right (p, a) (row q 0 (length (symbol σ (rule σ r).left).attributes)) (instances σ kids ++ instances σ rest)
-    (elim (in_cases p (all_places_lem kids) (all_places_lem rest) m) [
+    (elim (in_cases p (places_in kids) (places_in rest) m) [
       | inl w ↦ in_left (p, a) (instances σ kids) (instances σ rest) (shown_instance σ T p a kids (under q) 1 sk h w)
       | inr w ↦ in_right (p, a) (instances σ kids) (instances σ rest) (shown_instance σ T p a rest up (suc i) sr h w)
     ])
@@ -56,7 +56,7 @@ module _ (g : Grammar) (so : Sound g) (ps : List (Option Node)) (root : ℕ) (sh
   fixed = record { leaf = λ c. missing; result = λ f a b c. missing }
 
   -- an owed attribute exists
-  owed_there : (p a : ℕ) → InTree ps root p → owed_at ps (p, a) ≡ true → a < length (attributes_at_lem g (table g ps) p)
+  owed_there : (p a : ℕ) → InTree ps root p → owed_at ps (p, a) ≡ true → a < length (attributes_of g (table g ps) p)
   owed_there p a i h =
       subst (λ o. owes (marks_in o) a ≡ true → a < attributes g (cell_of g o).rule) (sym i.there)
       (λ e. owed_below_lem (attributes g i.node.rule) i.node.marks a (sh.places_sound.nodes p i.node i.there).marks_there e) h

@@ -2,7 +2,7 @@
 use Rattle.std.proofs.Common.{◌≡◌, ℕ, zero, suc, true, List, Some, None, Option, sym, ap, ◌∙◌, subst, arith}
 use Rattle.grammar.specs.Model.{Grammar}
 use Rattle.tour.specs.Runs.{In}
-use Rattle.tour.specs.Trees.{all_places_lem}
+use Rattle.tour.specs.Trees.{places_in}
 use Rattle.tour.proofs.Shapes.{Under}
 use Rattle.places.specs.Places.{used, parent_at, table}
 use Rattle.places.specs.Shape.{top_from, SoundPlaces, InTree}
@@ -40,13 +40,13 @@ module _ (g : Grammar) (ps : List (Option Node)) (sp : SoundPlaces g ps) where
           node_used ps v.place m.0 m.1
 
   -- its places are just those from which climbing ends at t
-  tree_places : (t p : ℕ) → Top ps t → In p (all_places_lem (tree_at g ps t)) → InTree ps t p
+  tree_places : (t p : ℕ) → Top ps t → In p (places_in (tree_at g ps t)) → InTree ps t p
   tree_places t p h m =
       let b = tree_below g (table g ps) (used ps) (ranked g ps sp) t p (node_used ps t h.node h.there) m in
       let n = used_node ps p b.1.used' in
       record { node = n.0; there = n.1; below_root = under_top b.0 p t b.1.used' b.1.way ∙ top_itself t h }
 
-  places_tree : (t p : ℕ) → InTree ps t p → In p (all_places_lem (tree_at g ps t))
+  places_tree : (t p : ℕ) → InTree ps t p → In p (places_in (tree_at g ps t))
   places_tree t p i =
       let u = node_used ps p i.node i.there in
       let c = climb_under g ps 64 p (ends_used g ps sp p u) in
@@ -58,7 +58,7 @@ module _ (g : Grammar) (ps : List (Option Node)) (sp : SoundPlaces g ps) where
       let r = tree_grown g (table g ps) (used ps) (ranked g ps sp) t (node_used ps t h.node h.there) (no_parent g ps t free) (ranked_depth g ps sp t ∙ depth_end ps 63 t free) in
       record { shown = r.shown; agrees = r.agrees; apart = r.apart; within = r.within; places_are = λ p. (tree_places t p h, places_tree t p) }
 
-  pub one_top : (p t u : ℕ) → Top ps t → Top ps u → In p (all_places_lem (tree_at g ps t)) → In p (all_places_lem (tree_at g ps u)) → t ≡ u
+  pub one_top : (p t u : ℕ) → Top ps t → Top ps u → In p (places_in (tree_at g ps t)) → In p (places_in (tree_at g ps u)) → t ≡ u
   one_top p t u ht hu mt mu = sym (tree_places t p ht mt).below_root ∙ (tree_places u p hu mu).below_root
 
 pub trees_law : TreesLaw

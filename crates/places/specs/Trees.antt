@@ -4,8 +4,8 @@ use Rattle.grammar.specs.Model.{Grammar}
 use Rattle.tour.specs.Nodes.{Shows, above}
 use Rattle.tour.specs.Rules.{rule}
 use Rattle.tour.specs.Runs.{In, Apart}
-use Rattle.tour.specs.Shapes.{tree_at_lem}
-use Rattle.tour.specs.Trees.{Forest, Agrees, all_places_lem}
+use Rattle.tour.specs.Shapes.{tree_from}
+use Rattle.tour.specs.Trees.{Forest, Agrees, places_in}
 use Rattle.tour.specs.Walks.{Within}
 use Rattle.places.specs.Places.{at, table}
 use Rattle.places.specs.Shape.{top_from, InShape, Held, InTree}
@@ -19,7 +19,7 @@ pub record Top (ps : List (Option Node)) (t : ℕ) : Type 0 where
 
 -- the tree at a place, read off the table
 abbrev pub tree_at : Grammar → List (Option Node) → ℕ → Forest
-tree_at g ps t = tree_at_lem (table g ps) 63 t
+tree_at g ps t = tree_from (table g ps) 63 t
 
 -- the symbol of the node at a place
 abbrev pub symbol_at : Grammar → List (Option Node) → ℕ → ℕ
@@ -30,9 +30,9 @@ symbol_at g ps t = (rule g (table g ps t).rule).left
 pub record ShownTree (g : Grammar) (ps : List (Option Node)) (t : ℕ) : Type 0 where
   pub shown : Shows (table g ps) (tree_at g ps t) above 0
   pub agrees : Agrees g (tree_at g ps t) (symbol_at g ps t ∷ [])
-  pub apart : Apart (all_places_lem (tree_at g ps t))
+  pub apart : Apart (places_in (tree_at g ps t))
   pub within : Within (tree_at g ps t) 64
-  pub places_are : (p : ℕ) → In p (all_places_lem (tree_at g ps t)) ↔ InTree ps t p
+  pub places_are : (p : ℕ) → In p (places_in (tree_at g ps t)) ↔ InTree ps t p
 
 -- a tree at each top; the tops are the root, which has the start symbol, and the held roots; each used place stands in
 -- the tree at one top
@@ -42,7 +42,7 @@ pub record ShownTrees (g : Grammar) (ps : List (Option Node)) (root : ℕ) : Typ
   pub root_start : symbol_at g ps root ≡ 0
   pub held_tops : (t : ℕ) → Held ps root t ↔ (Top ps t × (t ≢ root))
   pub some_top : (p : ℕ) (n : Node) → at ps p ≡ Some n → Top ps (top_from ps 64 p)
-  pub one_top : (p t u : ℕ) → Top ps t → Top ps u → In p (all_places_lem (tree_at g ps t)) → In p (all_places_lem (tree_at g ps u)) → t ≡ u
+  pub one_top : (p t u : ℕ) → Top ps t → Top ps u → In p (places_in (tree_at g ps t)) → In p (places_in (tree_at g ps u)) → t ≡ u
 
 abbrev pub TreesLaw : Type 0
 TreesLaw = (g : Grammar) (ps : List (Option Node)) (root : ℕ) → InShape g ps root → ShownTrees g ps root

@@ -50,7 +50,7 @@ module _ (all : List Symbol) (few : length all ≤ 32) (start : (s : Symbol) →
 -- equations
 apart_fresh : (before : List Equation) (e : Equation) (rest : List Equation) → Apart (before ++ e ∷ rest) → TargetAt before e.occurrence e.attribute → ⊥
 apart_fresh before e rest apart t =
-    let p = apart t.place (length before) t.equation e (nth_front before (e ∷ rest) t.place t.equation t.stands) (nth_at before rest e) t.occurrence_is t.attribute_is_lem in
+    let p = apart t.place (length before) t.equation e (nth_front before (e ∷ rest) t.place t.equation t.stands) (nth_at before rest e) t.occurrence_is t.attribute_is in
     let l = nth_below before t.place t.equation t.stands in
     omega arith
 
@@ -85,7 +85,7 @@ sound_apart ss r h p q e f sp sq oc at =
 sound_complete : (ss : List Symbol) (r : Rule) → SoundRule ss r → Complete (scope_of_rule ss r) r.equations
 sound_complete ss r h o a d =
     let q = h.one_equation o a ((defines_decides (scope_of_rule ss r) o a).0 d) in
-    record { place = q.0; equation = q.1.equation; stands = q.1.stands; occurrence_is = q.1.occurrence_is; attribute_is_lem = q.1.attribute_is_lem }
+    record { place = q.0; equation = q.1.equation; stands = q.1.stands; occurrence_is = q.1.occurrence_is; attribute_is = q.1.attribute_is }
 
 some_plan : (ss : List Symbol) (r : Rule) → SoundRule ss r → 0 < length r.plan
 some_plan ss r h =

@@ -102,7 +102,7 @@ pub record TargetAt (es : List Equation) (o a : ℕ) : Type 0 where
   pub equation : Equation
   pub stands : slice_get es place ≡ Some equation
   pub occurrence_is : equation.occurrence ≡ o
-  pub attribute_is_lem : equation.attribute ≡ a
+  pub attribute_is : equation.attribute ≡ a
 
 pub decides_target : (es : List Equation) (o a : ℕ) → Decides (has_target es o a) (TargetAt es o a)
 decides_target es o a = (found, there)
@@ -111,10 +111,10 @@ decides_target es o a = (found, there)
     found h =
         let r = some_found (λ e. targets e o a) es h in
         let p = and_parts (eqb r.1.occurrence o) (eqb r.1.attribute a) r.3 in
-        record { place = r.0; equation = r.1; stands = r.2; occurrence_is = eqb-true _ _ p.0; attribute_is_lem = eqb-true _ _ p.1 }
+        record { place = r.0; equation = r.1; stands = r.2; occurrence_is = eqb-true _ _ p.0; attribute_is = eqb-true _ _ p.1 }
 
     there : TargetAt es o a → has_target es o a ≡ true
-    there t = some_there (λ e. targets e o a) es t.place t.equation t.stands (and_from _ _ (eq-eqb _ _ t.occurrence_is) (eq-eqb _ _ t.attribute_is_lem))
+    there t = some_there (λ e. targets e o a) es t.place t.equation t.stands (and_from _ _ (eq-eqb _ _ t.occurrence_is) (eq-eqb _ _ t.attribute_is))
 
 -- an attribute that is there, with its symbol
 pub record Placed (σ : Scope) (o a : ℕ) (x : Attribute) : Type 0 where

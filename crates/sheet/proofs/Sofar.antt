@@ -67,8 +67,8 @@ apart_push es e h fresh p q f g sp sq oc at = by (nth_push es e p f sp) (nth_pus
   where
     by : (slice_get es p ≡ Some f) ⊎ ((p ≡ length es) × (e ≡ f)) → (slice_get es q ≡ Some g) ⊎ ((q ≡ length es) × (e ≡ g)) → p ≡ q
     by (inl a) (inl b) = h p q f g a b oc at
-    by (inl a) (inr b) = absurd (fresh (record { place = p; equation = f; stands = a; occurrence_is = oc ∙ ap (λ x. x.occurrence) (sym b.1); attribute_is_lem = at ∙ ap (λ x. x.attribute) (sym b.1) }))
-    by (inr a) (inl b) = absurd (fresh (record { place = q; equation = g; stands = b; occurrence_is = sym oc ∙ ap (λ x. x.occurrence) (sym a.1); attribute_is_lem = sym at ∙ ap (λ x. x.attribute) (sym a.1) }))
+    by (inl a) (inr b) = absurd (fresh (record { place = p; equation = f; stands = a; occurrence_is = oc ∙ ap (λ x. x.occurrence) (sym b.1); attribute_is = at ∙ ap (λ x. x.attribute) (sym b.1) }))
+    by (inr a) (inl b) = absurd (fresh (record { place = q; equation = g; stands = b; occurrence_is = sym oc ∙ ap (λ x. x.occurrence) (sym a.1); attribute_is = sym at ∙ ap (λ x. x.attribute) (sym a.1) }))
     by (inr a) (inr b) = a.0 ∙ sym b.0
 
 -- the symbols and occurrences of the open rule
@@ -179,7 +179,7 @@ keep_set ss rules o n k e few c h = record {
 one_from : (σ : Scope) (es : List Equation) → Apart es → Complete σ es → (o a : ℕ) → defines σ o a ≡ true → (q : ℕ) × OnlyEquation es q o a
 one_from σ es apart all o a d =
     let t = all o a d in
-    (t.place, record { equation = t.equation; stands = t.stands; occurrence_is = t.occurrence_is; attribute_is_lem = t.attribute_is_lem; only = λ p e s oc at. apart p t.place e t.equation s t.stands (oc ∙ sym t.occurrence_is) (at ∙ sym t.attribute_is_lem) })
+    (t.place, record { equation = t.equation; stands = t.stands; occurrence_is = t.occurrence_is; attribute_is = t.attribute_is; only = λ p e s oc at. apart p t.place e t.equation s t.stands (oc ∙ sym t.occurrence_is) (at ∙ sym t.attribute_is) })
 
 abbrev pub rule_with : List Instruction → Open → Rule
 rule_with is o = record { left = o.left; right = o.right; equations = o.equations; plan = is }

@@ -48,7 +48,7 @@ pub record OnlyEquation (es : List Equation) (q o a : ℕ) : Type 0 where
   pub equation : Equation
   pub stands : slice_get es q ≡ Some equation
   pub occurrence_is : equation.occurrence ≡ o
-  pub attribute_is_lem : equation.attribute ≡ a
+  pub attribute_is : equation.attribute ≡ a
   pub only : (p : ℕ) (e : Equation) → slice_get es p ≡ Some e → e.occurrence ≡ o → e.attribute ≡ a → p ≡ q
 
 -- an instruction names an attribute or a visit that is there; only right occurrences are visited

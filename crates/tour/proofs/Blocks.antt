@@ -3,7 +3,7 @@ use Rattle.std.proofs.Common.{◌≡◌, ℕ, true, ◌&&◌, eqb, ltb, List, []
 use mathlib.Core.Bool.{false≢true}
 use Rattle.grammar.specs.Model.{Grammar}
 use Rattle.tour.specs.Rules.{rule}
-use Rattle.tour.specs.Trees.{Forest, Agrees, all_places_lem}
+use Rattle.tour.specs.Trees.{Forest, Agrees, places_in}
 use Rattle.tour.specs.Trees.Forest.{none, node}
 use Rattle.tour.specs.Blocks.{pieces, reads, Means, BlockLaw}
 use Rattle.tour.proofs.Lists.{head_same, tail_same}
@@ -27,7 +27,7 @@ module _ (σ : Grammar) where
       (ap₂ (reads σ) (sym (append-nil xs)) (sym (append-nil (pieces f))) ∙ reads_over f xs [] [] m.agrees)
 
   -- trees for a row of symbols, taken apart
-  parted : (xs ys : List ℕ) (f : Forest) → Agrees σ f (xs ++ ys) → (g : Forest) × (h : Forest) × Agrees σ g xs × Agrees σ h ys × (pieces f ≡ pieces g ++ pieces h) × (all_places_lem f ≡ all_places_lem g ++ all_places_lem h)
+  parted : (xs ys : List ℕ) (f : Forest) → Agrees σ f (xs ++ ys) → (g : Forest) × (h : Forest) × Agrees σ g xs × Agrees σ h ys × (pieces f ≡ pieces g ++ pieces h) × (places_in f ≡ places_in g ++ places_in h)
   parted [] ys f ag = (none, f, tt, ag, refl, refl)
   parted (x ∷ xs) ys none ag = absurd ag
   parted (x ∷ xs) ys (node p r c kids rest) (l, e, ag, ag') =
@@ -37,7 +37,7 @@ module _ (σ : Grammar) where
         (l, e, ag, w.2),
         w.3,
         ap (λ z. (r, c) ∷ z) (ap (λ z. pieces kids ++ z) w.4 ∙ sym (append_assoc (pieces kids) (pieces w.0) (pieces w.1))),
-        ap (λ z. p ∷ z) (ap (λ z. all_places_lem kids ++ z) w.5 ∙ sym (append_assoc (all_places_lem kids) (all_places_lem w.0) (all_places_lem w.1))),
+        ap (λ z. p ∷ z) (ap (λ z. places_in kids ++ z) w.5 ∙ sym (append_assoc (places_in kids) (places_in w.0) (places_in w.1))),
       )
 
   -- what is read means trees, at any places
@@ -61,7 +61,7 @@ module _ (σ : Grammar) where
       )
 
   -- no more than one row of trees
-  one_row : (f g : Forest) (xs : List ℕ) (bs cs : List (ℕ × ℕ)) (ps qs : List ℕ) → Agrees σ f xs → Agrees σ g xs → pieces f ++ bs ≡ pieces g ++ cs → all_places_lem f ++ ps ≡ all_places_lem g ++ qs → (f ≡ g) × (bs ≡ cs) × (ps ≡ qs)
+  one_row : (f g : Forest) (xs : List ℕ) (bs cs : List (ℕ × ℕ)) (ps qs : List ℕ) → Agrees σ f xs → Agrees σ g xs → pieces f ++ bs ≡ pieces g ++ cs → places_in f ++ ps ≡ places_in g ++ qs → (f ≡ g) × (bs ≡ cs) × (ps ≡ qs)
   one_row none none xs bs cs ps qs ag ah e w = (refl, e, w)
   one_row none (node p r c kids rest) [] bs cs ps qs ag ah e w = absurd ah
   one_row none (node p r c kids rest) (x ∷ xs) bs cs ps qs ag ah e w = absurd ag
@@ -71,10 +71,10 @@ module _ (σ : Grammar) where
   one_row (node p r c kids rest) (node p' r' c' kids' rest') (x ∷ xs) bs cs ps qs (l, s, ag, ag') (l', s', ah, ah') e w =
       let er : r ≡ r' = ap (λ z. z.0) (head_same (r, c) (r', c') ((pieces kids ++ pieces rest) ++ bs) ((pieces kids' ++ pieces rest') ++ cs) e) in
       let ec : c ≡ c' = ap (λ z. z.1) (head_same (r, c) (r', c') ((pieces kids ++ pieces rest) ++ bs) ((pieces kids' ++ pieces rest') ++ cs) e) in
-      let ep : p ≡ p' = head_same p p' ((all_places_lem kids ++ all_places_lem rest) ++ ps) ((all_places_lem kids' ++ all_places_lem rest') ++ qs) w in
+      let ep : p ≡ p' = head_same p p' ((places_in kids ++ places_in rest) ++ ps) ((places_in kids' ++ places_in rest') ++ qs) w in
       let et : pieces kids ++ (pieces rest ++ bs) ≡ pieces kids' ++ (pieces rest' ++ cs) = sym (append_assoc (pieces kids) (pieces rest) bs) ∙ tail_same (r, c) (r', c') ((pieces kids ++ pieces rest) ++ bs) ((pieces kids' ++ pieces rest') ++ cs) e ∙ append_assoc (pieces kids') (pieces rest') cs in
-      let wt : all_places_lem kids ++ (all_places_lem rest ++ ps) ≡ all_places_lem kids' ++ (all_places_lem rest' ++ qs) = sym (append_assoc (all_places_lem kids) (all_places_lem rest) ps) ∙ tail_same p p' ((all_places_lem kids ++ all_places_lem rest) ++ ps) ((all_places_lem kids' ++ all_places_lem rest') ++ qs) w ∙ append_assoc (all_places_lem kids') (all_places_lem rest') qs in
-      let k = one_row kids kids' (rule σ r).right (pieces rest ++ bs) (pieces rest' ++ cs) (all_places_lem rest ++ ps) (all_places_lem rest' ++ qs) ag (subst (λ z. Agrees σ kids' (rule σ z).right) (sym er) ah) et wt in
+      let wt : places_in kids ++ (places_in rest ++ ps) ≡ places_in kids' ++ (places_in rest' ++ qs) = sym (append_assoc (places_in kids) (places_in rest) ps) ∙ tail_same p p' ((places_in kids ++ places_in rest) ++ ps) ((places_in kids' ++ places_in rest') ++ qs) w ∙ append_assoc (places_in kids') (places_in rest') qs in
+      let k = one_row kids kids' (rule σ r).right (pieces rest ++ bs) (pieces rest' ++ cs) (places_in rest ++ ps) (places_in rest' ++ qs) ag (subst (λ z. Agrees σ kids' (rule σ z).right) (sym er) ah) et wt in
       let m = one_row rest rest' xs bs cs ps qs ag' ah' k.1 k.2 in
       (cc (er, ec, ep, k.0, m.0), m.1, m.2)
 

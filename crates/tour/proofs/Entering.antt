@@ -11,7 +11,7 @@ use Rattle.sheet.specs.Meaning.{Sound}
 use Rattle.tour.specs.Trees.{Instance, Forest, at_of, part, up_to, listed}
 use Rattle.tour.specs.Touring.{tour}
 use Rattle.tour.specs.Nodes.{Table}
-use Rattle.tour.specs.Shapes.{tree_at_lem}
+use Rattle.tour.specs.Shapes.{tree_from}
 use Rattle.tour.specs.Roots.{Rooted}
 use Rattle.tour.specs.Walks.{plan_at, below, deep, begins, left_over, Framed, weight, weights}
 use Rattle.tour.specs.Entering.{behind_visits, to_list, entry_moves, frame_moves, moves_to_make, Entering, Entered, Descended, Entries, EntryLaw}
@@ -182,7 +182,7 @@ entry_law = record {
   moves = λ σ so T t. entries σ T t (sound_accepted σ so);
 }
   where
-    begin : (σ : Grammar) → Sound σ → (T : Table) (p : ℕ) → Rooted σ T 0 (tree_at_lem T 63 p) → Entering σ T (tree_at_lem T 63 p) 63 0 p 0 [] []
+    begin : (σ : Grammar) → Sound σ → (T : Table) (p : ℕ) → Rooted σ T 0 (tree_from T 63 p) → Entering σ T (tree_from T 63 p) 63 0 p 0 [] []
     begin σ so T p r =
         let w = walk_starts σ T p so r in
         let b = ((sound_accepted σ so).rules (T p).rule r.agrees.0).1.return_last in

@@ -3,14 +3,14 @@ use Rattle.std.proofs.Common.{◌≡◌, ℕ, zero, suc, ◌+◌, ◌<◌, ◌�
 use Rattle.tour.specs.Runs.{In, Apart}
 use Rattle.grammar.specs.Model.{Grammar}
 use Rattle.tour.specs.Rules.{rule}
-use Rattle.tour.specs.Trees.{Forest, places, Agrees, all_places_lem}
+use Rattle.tour.specs.Trees.{Forest, places, Agrees, places_in}
 use Rattle.tour.specs.Trees.Forest.{none}
 use Rattle.tour.specs.Nodes.{Link, Table, Shows, above, Planted}
 use Rattle.tour.specs.Nodes.Link.{top, under}
 use Rattle.tour.specs.Walks.{Within}
 use Rattle.sheet.specs.Meaning.{Sound}
 use Rattle.tour.specs.Roots.{Rooted, Roots, RootsLaw}
-use Rattle.tour.specs.Shapes.{Climbs, Shape, Linked, row_of, grow, tree_at_lem}
+use Rattle.tour.specs.Shapes.{Climbs, Shape, Linked, row_of, grow, tree_from}
 use Rattle.tour.proofs.Places.{instance_place, shown_attribute, shown_instance}
 use Rattle.tour.proofs.Lists.{in_left, in_right, in_cases}
 use Rattle.tour.proofs.Sums.{apart_append}
@@ -63,16 +63,16 @@ under_trans T (suc m) n x p q (u, k, e, r) s = subst (λ z. Under T z x q) (sym 
 
 module _ (σ : Grammar) (T : Table) (used : ℕ → Bool) (root : ℕ) (sh : Shape σ T used root) where
   -- what stands in a row stands below one of its places
-  in_row : (d : ℕ) (x : ℕ) (ps : List ℕ) → ((k : ℕ) → k < length ps → In x (all_places_lem (grow T d (get_or ps k 0))) → (m : ℕ) × Under T (suc m) x (get_or ps k 0)) → In x (all_places_lem (row_of T (grow T d) ps)) → (k : ℕ) × (k < length ps) × ((m : ℕ) × Under T m x (get_or ps k 0))
+  in_row : (d : ℕ) (x : ℕ) (ps : List ℕ) → ((k : ℕ) → k < length ps → In x (places_in (grow T d (get_or ps k 0))) → (m : ℕ) × Under T (suc m) x (get_or ps k 0)) → In x (places_in (row_of T (grow T d) ps)) → (k : ℕ) × (k < length ps) × ((m : ℕ) × Under T m x (get_or ps k 0))
   in_row d x [] f m = absurd m
   in_row d x (q ∷ ps) f (inl e) = (0, omega arith, (0, e))
-  in_row d x (q ∷ ps) f (inr m) = go (in_cases x (all_places_lem (grow T d q)) (all_places_lem (row_of T (grow T d) ps)) m) (in_row d x ps (λ k h. f (suc k) (omega arith)))
+  in_row d x (q ∷ ps) f (inr m) = go (in_cases x (places_in (grow T d q)) (places_in (row_of T (grow T d) ps)) m) (in_row d x ps (λ k h. f (suc k) (omega arith)))
     where
-      go : In x (all_places_lem (grow T d q)) ⊎ In x (all_places_lem (row_of T (grow T d) ps)) → (In x (all_places_lem (row_of T (grow T d) ps)) → (k : ℕ) × (k < length ps) × ((m : ℕ) × Under T m x (get_or ps k 0))) → (k : ℕ) × (k < length (q ∷ ps)) × ((m : ℕ) × Under T m x (get_or (q ∷ ps) k 0))
+      go : In x (places_in (grow T d q)) ⊎ In x (places_in (row_of T (grow T d) ps)) → (In x (places_in (row_of T (grow T d) ps)) → (k : ℕ) × (k < length ps) × ((m : ℕ) × Under T m x (get_or ps k 0))) → (k : ℕ) × (k < length (q ∷ ps)) × ((m : ℕ) × Under T m x (get_or (q ∷ ps) k 0))
       go (inl w) g = let r = f 0 (omega arith) w in (0, omega arith, (suc r.0, r.1))
       go (inr w) g = let r = g w in (suc r.0, omega (arith, r.1), r.2)
 
-  pub in_grow : (d x q : ℕ) → used q ≡ true → In x (all_places_lem (grow T d q)) → (m : ℕ) × Under T (suc m) x q
+  pub in_grow : (d x q : ℕ) → used q ≡ true → In x (places_in (grow T d q)) → (m : ℕ) × Under T (suc m) x q
   in_grow zero x q u m = absurd m
   in_grow (suc d) x q u m =
       let r = in_row d x (T q).kids (λ k h. in_grow d x (get_or (T q).kids k 0) (sh.kid_used q k u h)) m in
@@ -145,12 +145,12 @@ module _ (σ : Grammar) (T : Table) (used : ℕ → Bool) (root : ℕ) (sh : Sha
     same_position l u k v j e f = cc
 
     -- places of a row are not each other's, nor below one another
-    row_apart : (d n : ℕ) → ((q : ℕ) → used q ≡ true → Under T n q base → Apart (all_places_lem (grow T d q))) → (ps xs : List ℕ) (p i : ℕ) → Row p i n ps xs → Apart (all_places_lem (row_of T (grow T d) ps))
+    row_apart : (d n : ℕ) → ((q : ℕ) → used q ≡ true → Under T n q base → Apart (places_in (grow T d q))) → (ps xs : List ℕ) (p i : ℕ) → Row p i n ps xs → Apart (places_in (row_of T (grow T d) ps))
     row_apart d n below [] xs p i r = tt
     row_apart d n below (q ∷ ps) [] p i r = absurd (let l = r.long in omega arith)
     row_apart d n below (q ∷ ps) (x ∷ xs) p i r = (
-      (λ m. elim (in_cases q (all_places_lem (grow T d q)) (all_places_lem (row_of T (grow T d) ps)) m) [ inl w ↦ itself (in_grow d q q uq w) | inr w ↦ other q (0, refl) (in_row d q ps inner w) ]),
-      apart_append (all_places_lem (grow T d q)) (all_places_lem (row_of T (grow T d) ps)) (below q uq wq) (row_apart d n below ps xs p (suc i) tail)
+      (λ m. elim (in_cases q (places_in (grow T d q)) (places_in (row_of T (grow T d) ps)) m) [ inl w ↦ itself (in_grow d q q uq w) | inr w ↦ other q (0, refl) (in_row d q ps inner w) ]),
+      apart_append (places_in (grow T d q)) (places_in (row_of T (grow T d) ps)) (below q uq wq) (row_apart d n below ps xs p (suc i) tail)
           (λ y a b. let w = in_grow d y q uq a in other y (suc w.0, w.1) (in_row d y ps inner b)),
     )
       where
@@ -166,7 +166,7 @@ module _ (σ : Grammar) (T : Table) (used : ℕ → Bool) (root : ℕ) (sh : Sha
         tail : Row p (suc i) n ps xs
         tail = row_tail p i n q x ps xs r
 
-        inner : {y : ℕ} → (k : ℕ) → k < length ps → In y (all_places_lem (grow T d (get_or ps k 0))) → (m : ℕ) × Under T (suc m) y (get_or ps k 0)
+        inner : {y : ℕ} → (k : ℕ) → k < length ps → In y (places_in (grow T d (get_or ps k 0))) → (m : ℕ) × Under T (suc m) y (get_or ps k 0)
         inner {y} k l m = in_grow d y (get_or ps k 0) (tail.used' k l) m
 
         itself : (m : ℕ) × Under T (suc m) q q → ⊥
@@ -179,11 +179,11 @@ module _ (σ : Grammar) (T : Table) (used : ℕ → Bool) (root : ℕ) (sh : Sha
             let pos = same_position (T q).link p (i + 0) p (suc i + k) (r.link' 0 h) (ap (λ z. (T z).link) same ∙ tail.link' k l) in
             omega arith
 
-    grow_apart : (d n p : ℕ) → used p ≡ true → Under T n p base → Apart (all_places_lem (grow T d p))
+    grow_apart : (d n p : ℕ) → used p ≡ true → Under T n p base → Apart (places_in (grow T d p))
     grow_apart zero n p u w = tt
     grow_apart (suc d) n p u w = row_apart d (suc n) (λ q uq wq. grow_apart d (suc n) q uq wq) (T p).kids (rule σ (T p).rule).right p 1 (kids_row p n u w)
 
-    pub base_rooted : Rooted σ T (rule σ (T base).rule).left (tree_at_lem T 63 base)
+    pub base_rooted : Rooted σ T (rule σ (T base).rule).left (tree_from T 63 base)
     unfolding Grown
     base_rooted =
         let g = grown 63 0 (omega arith) base ub refl in
@@ -191,8 +191,8 @@ module _ (σ : Grammar) (T : Table) (used : ℕ → Bool) (root : ℕ) (sh : Sha
           agrees = (sh.rules base ub, refl, g.2, tt);
           shown = (refl, refl, g.0, tb, g.1, tt);
           apart = (
-            (λ m. elim (in_cases base (all_places_lem (grow T 63 base)) [] m) [ inl w ↦ alone (in_grow 63 base base ub w) | inr w ↦ w ]),
-            apart_append (all_places_lem (grow T 63 base)) [] (grow_apart 63 0 base ub refl) tt (λ x m k. k),
+            (λ m. elim (in_cases base (places_in (grow T 63 base)) [] m) [ inl w ↦ alone (in_grow 63 base base ub w) | inr w ↦ w ]),
+            apart_append (places_in (grow T 63 base)) [] (grow_apart 63 0 base ub refl) tt (λ x m k. k),
           );
           depth = (g.3, tt);
         }
@@ -201,29 +201,29 @@ module _ (σ : Grammar) (T : Table) (used : ℕ → Bool) (root : ℕ) (sh : Sha
         alone (m, w) = let e = root_way T (suc m) 0 base base tb w refl in omega arith
 
     -- what stands in its tree stands below it
-    pub in_base : (x : ℕ) → In x (all_places_lem (tree_at_lem T 63 base)) → (m : ℕ) × Under T m x base
+    pub in_base : (x : ℕ) → In x (places_in (tree_from T 63 base)) → (m : ℕ) × Under T m x base
     in_base x (inl e) = (0, e)
-    in_base x (inr m) = elim (in_cases x (all_places_lem (grow T 63 base)) [] m) [ inl w ↦ (let r = in_grow 63 x base ub w in (suc r.0, r.1)) | inr w ↦ absurd w ]
+    in_base x (inr m) = elim (in_cases x (places_in (grow T 63 base)) [] m) [ inl w ↦ (let r = in_grow 63 x base ub w in (suc r.0, r.1)) | inr w ↦ absurd w ]
 
-  pub day_rooted : Rooted σ T 0 (tree_at_lem T 63 root)
-  day_rooted = subst (λ x. Rooted σ T x (tree_at_lem T 63 root)) sh.root_start (base_rooted root sh.root_used sh.root_top)
+  pub day_rooted : Rooted σ T 0 (tree_from T 63 root)
+  day_rooted = subst (λ x. Rooted σ T x (tree_from T 63 root)) sh.root_start (base_rooted root sh.root_used sh.root_top)
 
-  row_used : (d x : ℕ) (ps : List ℕ) → ((k : ℕ) → k < length ps → used (get_or ps k 0) ≡ true) → ((k : ℕ) → k < length ps → In x (all_places_lem (grow T d (get_or ps k 0))) → used x ≡ true) → In x (all_places_lem (row_of T (grow T d) ps)) → used x ≡ true
+  row_used : (d x : ℕ) (ps : List ℕ) → ((k : ℕ) → k < length ps → used (get_or ps k 0) ≡ true) → ((k : ℕ) → k < length ps → In x (places_in (grow T d (get_or ps k 0))) → used x ≡ true) → In x (places_in (row_of T (grow T d) ps)) → used x ≡ true
   row_used d x [] u f m = absurd m
   row_used d x (q ∷ ps) u f (inl e) = ap used e ∙ u 0 (omega arith)
-  row_used d x (q ∷ ps) u f (inr m) = go (in_cases x (all_places_lem (grow T d q)) (all_places_lem (row_of T (grow T d) ps)) m) (row_used d x ps (λ k h. u (suc k) (omega arith)) (λ k h. f (suc k) (omega arith)))
+  row_used d x (q ∷ ps) u f (inr m) = go (in_cases x (places_in (grow T d q)) (places_in (row_of T (grow T d) ps)) m) (row_used d x ps (λ k h. u (suc k) (omega arith)) (λ k h. f (suc k) (omega arith)))
     where
-      go : In x (all_places_lem (grow T d q)) ⊎ In x (all_places_lem (row_of T (grow T d) ps)) → (In x (all_places_lem (row_of T (grow T d) ps)) → used x ≡ true) → used x ≡ true
+      go : In x (places_in (grow T d q)) ⊎ In x (places_in (row_of T (grow T d) ps)) → (In x (places_in (row_of T (grow T d) ps)) → used x ≡ true) → used x ≡ true
       go (inl w) g = f 0 (omega arith) w
       go (inr w) g = g w
 
-  grow_used : (d x q : ℕ) → used q ≡ true → In x (all_places_lem (grow T d q)) → used x ≡ true
+  grow_used : (d x q : ℕ) → used q ≡ true → In x (places_in (grow T d q)) → used x ≡ true
   grow_used zero x q u m = absurd m
   grow_used (suc d) x q u m = row_used d x (T q).kids (λ k h. sh.kid_used q k u h) (λ k h w. grow_used d x (get_or (T q).kids k 0) (sh.kid_used q k u h) w) m
 
-  pub tree_used : (x p : ℕ) → used p ≡ true → In x (all_places_lem (tree_at_lem T 63 p)) → used x ≡ true
+  pub tree_used : (x p : ℕ) → used p ≡ true → In x (places_in (tree_from T 63 p)) → used x ≡ true
   tree_used x p u (inl e) = ap used e ∙ u
-  tree_used x p u (inr m) = elim (in_cases x (all_places_lem (grow T 63 p)) [] m) [ inl w ↦ grow_used 63 x p u w | inr w ↦ absurd w ]
+  tree_used x p u (inr m) = elim (in_cases x (places_in (grow T 63 p)) [] m) [ inl w ↦ grow_used 63 x p u w | inr w ↦ absurd w ]
 
 -- where links are right, all between a used place and its root is used
 module _ (T : Table) (used : ℕ → Bool) (li : Linked T used) where
@@ -236,20 +236,20 @@ module _ (T : Table) (used : ℕ → Bool) (li : Linked T used) where
   first_down zero x p u (v, k, e, r) = (x, k, u, e ∙ ap (λ z. under z k) r, refl)
   first_down (suc m) x p u (v, k, e, r) = let w = first_down m v p (li x v k u e).2.parent_used r in (w.0, w.1, w.2, w.3, (v, k, e, w.4))
 
-  row_covers : (d x n : ℕ) (ps : List ℕ) → n < length ps → In x (all_places_lem (tree_at_lem T d (get_or ps n 0))) → In x (all_places_lem (row_of T (grow T d) ps))
+  row_covers : (d x n : ℕ) (ps : List ℕ) → n < length ps → In x (places_in (tree_from T d (get_or ps n 0))) → In x (places_in (row_of T (grow T d) ps))
   row_covers d x n [] h m = absurd (omega arith)
   row_covers d x zero (q ∷ ps) h (inl e) = inl e
-  row_covers d x zero (q ∷ ps) h (inr m) = inr (in_left x (all_places_lem (grow T d q)) (all_places_lem (row_of T (grow T d) ps)) (elim (in_cases x (all_places_lem (grow T d q)) [] m) [ inl w ↦ w | inr w ↦ absurd w ]))
-  row_covers d x (suc n) (q ∷ ps) h m = inr (in_right x (all_places_lem (grow T d q)) (all_places_lem (row_of T (grow T d) ps)) (row_covers d x n ps (omega arith) m))
+  row_covers d x zero (q ∷ ps) h (inr m) = inr (in_left x (places_in (grow T d q)) (places_in (row_of T (grow T d) ps)) (elim (in_cases x (places_in (grow T d q)) [] m) [ inl w ↦ w | inr w ↦ absurd w ]))
+  row_covers d x (suc n) (q ∷ ps) h m = inr (in_right x (places_in (grow T d q)) (places_in (row_of T (grow T d) ps)) (row_covers d x n ps (omega arith) m))
 
-  tree_covers : (m d x p : ℕ) → m ≤ d → used x ≡ true → Under T m x p → In x (all_places_lem (tree_at_lem T d p))
+  tree_covers : (m d x p : ℕ) → m ≤ d → used x ≡ true → Under T m x p → In x (places_in (tree_from T d p))
   tree_covers zero d x p h u e = inl e
   tree_covers (suc m) zero x p h u r = absurd (omega arith)
   tree_covers (suc m) (suc d) x p h u r =
       let w = first_down m x p u r in
       let c = li w.0 p w.1 w.2 w.3 in
-      let below : In x (all_places_lem (tree_at_lem T d (get_or (T p).kids c.0 0))) = subst (λ z. In x (all_places_lem (tree_at_lem T d z))) (sym c.2.is) (tree_covers m d x w.0 (omega arith) u w.4) in
-      inr (in_left x (all_places_lem (grow T (suc d) p)) [] (row_covers d x c.0 (T p).kids c.2.there below))
+      let below : In x (places_in (tree_from T d (get_or (T p).kids c.0 0))) = subst (λ z. In x (places_in (tree_from T d z))) (sym c.2.is) (tree_covers m d x w.0 (omega arith) u w.4) in
+      inr (in_left x (places_in (grow T (suc d) p)) [] (row_covers d x c.0 (T p).kids c.2.there below))
 
   climbed : (n x : ℕ) → Climbs T n x → (m : ℕ) × (p : ℕ) × (m < n) × ((T p).link ≡ top) × Under T m x p
   climbed zero x c = absurd c
@@ -263,8 +263,8 @@ rooted_all σ T used root sh = record {
   within = λ p x r m. tree_used σ T used root sh x p r.there m;
   instances = λ p x r.
       let shown = (base_rooted σ T used root sh p r.there r.free).shown in (
-        (λ m. (instance_place σ x (tree_at_lem T 63 p) m, shown_attribute σ T x (tree_at_lem T 63 p) above 0 shown m)),
-        λ w. shown_instance σ T x (tree_at_lem T 63 p) above 0 shown w.0 w.1,
+        (λ m. (instance_place σ x (tree_from T 63 p) m, shown_attribute σ T x (tree_from T 63 p) above 0 shown m)),
+        λ w. shown_instance σ T x (tree_from T 63 p) above 0 shown w.0 w.1,
       );
   apart = λ p q x rp rq m n.
       let u = in_base σ T used root sh p rp.there rp.free x m in
@@ -282,5 +282,5 @@ roots_law = record {
 }
 
 -- a sound grammar's tree, planted
-pub shape_planted : (σ : Grammar) (T : Table) (used : ℕ → Bool) (root : ℕ) → Sound σ → Shape σ T used root → Planted σ T (tree_at_lem T 63 root)
+pub shape_planted : (σ : Grammar) (T : Table) (used : ℕ → Bool) (root : ℕ) → Sound σ → Shape σ T used root → Planted σ T (tree_from T 63 root)
 shape_planted σ T used root so sh = let r = day_rooted σ T used root sh in record { sound = so; agrees = r.agrees; shown = r.shown; apart = r.apart }

@@ -3,7 +3,7 @@ use Rattle.std.proofs.Common.{◌≡◌, ℕ, ◌+◌, ◌≤◌, List, [], ◌�
 use Rattle.tour.specs.Runs.{In, Apart}
 use Rattle.grammar.specs.Model.{Grammar}
 use Rattle.grammar.specs.declared.terms.Flow.TheVariants.{Inherited}
-use Rattle.tour.specs.Trees.{Instance, Forest, no_visit, tours, Agrees, Arguments, instances, all_places_lem}
+use Rattle.tour.specs.Trees.{Instance, Forest, no_visit, tours, Agrees, Arguments, instances, places_in}
 use Rattle.tour.specs.Trees.Forest.{none, node}
 use Rattle.tour.specs.Touring.{tour, Touring, TourLaw}
 use Rattle.tour.proofs.Sums.{sum_of, in_count, count_in, apart_count, count_apart, one_at}
@@ -43,7 +43,7 @@ tour_ord σ ac args t ag na =
     (λ a i has h. ac.start_free a i has)
     (λ i l h y m. omega arith)
 
-pub accepted_tour : (σ : Grammar) → Accepted σ → (args : Instance → List Instance) (t : Forest) → Agrees σ t (0 ∷ []) → Arguments σ args t → Apart (all_places_lem t) → Touring σ args t
+pub accepted_tour : (σ : Grammar) → Accepted σ → (args : Instance → List Instance) (t : Forest) → Agrees σ t (0 ∷ []) → Arguments σ args t → Apart (places_in t) → Touring σ args t
 accepted_tour σ ac args t ag na pl = record {
   once = count_apart instance_discrete (tour σ t) (λ x. subst (λ n. n ≤ 1) (sym (same x)) (apart_count instance_discrete x (instances σ t) (apart_instances σ t pl)));
   all = λ x. (

@@ -16,7 +16,7 @@ use Rattle.std.specs.List.{slice_get}
 use Rattle.plans.proofs.Places.{nth_within, nth_at}
 use Rattle.tour.specs.Walks.{plan_at, below, deep, begins, left_over, Within, Framed, weight, weights, moves, moves_left, Walking, MovedOn, Visited, Moves, WalkLaw}
 use Rattle.tour.specs.Touring.{tour}
-use Rattle.tour.specs.Shapes.{grow, tree_at_lem}
+use Rattle.tour.specs.Shapes.{grow, tree_from}
 use Rattle.sheet.specs.Meaning.{Sound}
 use Rattle.tour.specs.Roots.{Rooted}
 use Rattle.tour.proofs.Accepted.{sound_accepted}
@@ -250,10 +250,10 @@ module _ (σ : Grammar) (T : Table) (t : Forest) (ac : Accepted σ) where
   }
 
 -- a walk begins at the root
-pub walk_starts : (σ : Grammar) (T : Table) (p : ℕ) → Sound σ → Rooted σ T 0 (tree_at_lem T 63 p) → Walking σ T (tree_at_lem T 63 p) 63 ((p, 0) ∷ []) []
+pub walk_starts : (σ : Grammar) (T : Table) (p : ℕ) → Sound σ → Rooted σ T 0 (tree_from T 63 p) → Walking σ T (tree_from T 63 p) 63 ((p, 0) ∷ []) []
 walk_starts σ T p so r = record {
   framed = ((grow T 63 p, r.shown.2, r.shown.4, r.agrees.2, r.depth.0, r.agrees.0, long), tt);
-  parts = walk_begins σ T 63 p ∙ deep_tour σ T (tree_at_lem T 63 p) 64 (record { sound = so; agrees = r.agrees; shown = r.shown; apart = r.apart }) r.depth;
+  parts = walk_begins σ T 63 p ∙ deep_tour σ T (tree_from T 63 p) 64 (record { sound = so; agrees = r.agrees; shown = r.shown; apart = r.apart }) r.depth;
   room = refl;
 }
   where

@@ -2,7 +2,7 @@
 use Rattle.std.specs.Prelude.{◌≡◌, ℕ, Bool, true, false, ◌&&◌, List, [], ◌∷◌, ◌++◌, length, ◌==◌, nat_lt}
 use Rattle.grammar.specs.Model.{Grammar}
 use Rattle.tour.specs.Rules.{rule}
-use Rattle.tour.specs.Trees.{Forest, Agrees, all_places_lem}
+use Rattle.tour.specs.Trees.{Forest, Agrees, places_in}
 use Rattle.tour.specs.Trees.Forest.{none, node}
 
 abbrev pub pieces : Forest → List (ℕ × ℕ)
@@ -20,7 +20,7 @@ reads σ (x ∷ xs) ((r, c) ∷ bs) = nat_lt r (length σ.rules) && ((rule σ r)
 pub record Means (σ : Grammar) (xs : List ℕ) (bs : List (ℕ × ℕ)) (ps : List ℕ) (f : Forest) : Type 0 where
   pub agrees : Agrees σ f xs
   pub block : pieces f ≡ bs
-  pub at : all_places_lem f ≡ ps
+  pub at : places_in f ≡ ps
 
 -- just the blocks that are read mean trees, at any places as many as they have nodes, and they mean one row of trees
 pub record BlockLaw : Type 0 where

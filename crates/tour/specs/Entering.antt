@@ -9,7 +9,7 @@ use Rattle.sheet.specs.Meaning.{Sound}
 use Rattle.tour.specs.Trees.{Instance, Forest, at_of, part, up_to, listed}
 use Rattle.tour.specs.Touring.{tour}
 use Rattle.tour.specs.Nodes.{Table}
-use Rattle.tour.specs.Shapes.{Shape, tree_at_lem}
+use Rattle.tour.specs.Shapes.{Shape, tree_from}
 use Rattle.tour.specs.Walks.{plan_at, below, deep, begins, left_over, Framed, weight, weights}
 
 -- its frames stand at the visits under way, and go on behind them
@@ -105,5 +105,5 @@ pub record Entries (σ : Grammar) (T : Table) (t : Forest) : Type 0 where
 pub record EntryLaw : Type 0 where
   pub starts :
       (σ : Grammar) → Sound σ → (T : Table) (used : ℕ → Bool) (root : ℕ) → Shape σ T used root →
-      Entering σ T (tree_at_lem T 63 root) 63 0 root 0 [] []
+      Entering σ T (tree_from T 63 root) 63 0 root 0 [] []
   pub moves : (σ : Grammar) → Sound σ → (T : Table) (t : Forest) → Entries σ T t

@@ -3,7 +3,7 @@ use Rattle.std.specs.Prelude.{◌≡◌, ℕ, cond, [], ◌∷◌, map, ◌==◌
 use Rattle.grammar.specs.Model.{Grammar}
 use Rattle.tour.specs.Runs.{In, Apart}
 use Rattle.tour.specs.Rules.{rule}
-use Rattle.tour.specs.Trees.{Forest, Agrees, all_places_lem}
+use Rattle.tour.specs.Trees.{Forest, Agrees, places_in}
 use Rattle.tour.specs.Trees.Forest.{none, node}
 use Rattle.tour.specs.Nodes.{Table, Shows, above, Planted}
 use Rattle.tour.specs.Nodes.Link.{top}
@@ -47,7 +47,7 @@ pub record Grafted (σ : Grammar) (q h r c : ℕ) (kids t : Forest) (T U : Table
 -- where q stands in t, and the block is a root of the symbol there and shares no place with t
 abbrev pub GraftLaw : Type 0
 GraftLaw =
-    (σ : Grammar) (q h r c : ℕ) (kids t : Forest) (T U : Table) → Exchanged q h T U → Planted σ T t → In q (all_places_lem t) →
+    (σ : Grammar) (q h r c : ℕ) (kids t : Forest) (T U : Table) → Exchanged q h T U → Planted σ T t → In q (places_in t) →
     Agrees σ (node h r c kids none) ((rule σ (T q).rule).left ∷ []) → Shows T (node h r c kids none) above 0 →
-    Apart (all_places_lem (node h r c kids none)) → ((x : ℕ) → In x (all_places_lem t) → In x (all_places_lem (node h r c kids none)) → ⊥) →
+    Apart (places_in (node h r c kids none)) → ((x : ℕ) → In x (places_in t) → In x (places_in (node h r c kids none)) → ⊥) →
     Grafted σ q h r c kids t T U

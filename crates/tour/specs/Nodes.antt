@@ -6,7 +6,7 @@ use Rattle.grammar.specs.declared.terms.Flow.{Flow}
 use Rattle.sheet.specs.Meaning.{Sound}
 use Rattle.tour.specs.Runs.{Apart}
 use Rattle.tour.specs.Rules.{symbol, rule, no_attribute}
-use Rattle.tour.specs.Trees.{Instance, Forest, places, Agrees, all_places_lem}
+use Rattle.tour.specs.Trees.{Instance, Forest, places, Agrees, places_in}
 use Rattle.tour.specs.Trees.Forest.{none, node}
 
 -- what a node is to the one above it: a root, or the child at a position, counted from 1
@@ -27,11 +27,11 @@ abbrev pub Table : Type 0
 Table = ℕ → Cell
 
 -- the attributes of the symbol at a place, and the flow of one of them
-abbrev pub attributes_at_lem : Grammar → Table → ℕ → List Attribute
-attributes_at_lem σ T p = (symbol σ (rule σ (T p).rule).left).attributes
+abbrev pub attributes_of : Grammar → Table → ℕ → List Attribute
+attributes_of σ T p = (symbol σ (rule σ (T p).rule).left).attributes
 
 abbrev pub flow_of : Grammar → Table → Instance → Flow
-flow_of σ T x = (slice_index_or (attributes_at_lem σ T x.0) x.1 no_attribute).flow
+flow_of σ T x = (slice_index_or (attributes_of σ T x.0) x.1 no_attribute).flow
 
 -- the table shows these trees; the links of their roots are up k, up (k + 1), ..
 abbrev pub Shows : Table → Forest → (ℕ → Link) → ℕ → Type 0
@@ -48,4 +48,4 @@ pub record Planted (σ : Grammar) (T : Table) (t : Forest) : Type 0 where
   pub sound : Sound σ
   pub agrees : Agrees σ t (0 ∷ [])
   pub shown : Shows T t above 0
-  pub apart : Apart (all_places_lem t)
+  pub apart : Apart (places_in t)

@@ -48,5 +48,5 @@ grow T zero p = none
 grow T (suc d) p = row_of T (grow T d) (T p).kids
 
 -- the tree with root p
-abbrev pub tree_at_lem : Table → ℕ → ℕ → Forest
-tree_at_lem T d p = node p (T p).rule (T p).code (grow T d p) none
+abbrev pub tree_from : Table → ℕ → ℕ → Forest
+tree_from T d p = node p (T p).rule (T p).code (grow T d p) none

@@ -4,7 +4,7 @@ use Rattle.grammar.specs.Model.{Grammar}
 use Rattle.grammar.specs.declared.terms.Flow.TheVariants.{Inherited, Synthesized}
 use Rattle.tour.specs.Runs.{In, named, State}
 use Rattle.tour.specs.Trees.{Instance}
-use Rattle.tour.specs.Nodes.{Table, attributes_at_lem, flow_of}
+use Rattle.tour.specs.Nodes.{Table, attributes_of, flow_of}
 use Rattle.tour.specs.Nodes.Link.{top, under}
 use Rattle.tour.specs.Exchange.{Exchanged}
 use Rattle.tour.specs.Results.{Meaning, sources, result, Touches}
@@ -12,7 +12,7 @@ use Rattle.tour.specs.Results.{Meaning, sources, result, Touches}
 -- an instance at a used place that has an equation: not an inherited one of a root
 pub record Live (σ : Grammar) (T : Table) (used : ℕ → Bool) (x : Instance) : Type 0 where
   pub place : used x.0 ≡ true
-  pub attribute : x.1 < length (attributes_at_lem σ T x.0)
+  pub attribute : x.1 < length (attributes_of σ T x.0)
   pub below : flow_of σ T x ≡ Inherited → (T x.0).link ≢ top
 
 abbrev pub Steady : {V : Type 0} → Meaning V → Grammar → Table → (ℕ → Bool) → State Instance V → Type 0

@@ -3,7 +3,7 @@ use Rattle.std.specs.Prelude.{◌≡◌, ◌↔◌, List, [], ◌∷◌, ◌++�
 use Rattle.grammar.specs.Model.{Grammar}
 use Rattle.sheet.specs.Meaning.{Sound}
 use Rattle.tour.specs.Runs.{In, Apart}
-use Rattle.tour.specs.Trees.{Instance, Forest, no_visit, tours, Agrees, Arguments, instances, all_places_lem}
+use Rattle.tour.specs.Trees.{Instance, Forest, no_visit, tours, Agrees, Arguments, instances, places_in}
 
 -- the tour of a tree is the one visit of its root
 abbrev pub tour : Grammar → Forest → List Instance
@@ -19,4 +19,4 @@ pub record Touring (σ : Grammar) (args : Instance → List Instance) (t : Fores
 abbrev pub TourLaw : Type 0
 TourLaw =
     (σ : Grammar) → Sound σ → (args : Instance → List Instance) (t : Forest) → Agrees σ t (0 ∷ []) → Arguments σ args t →
-    Apart (all_places_lem t) → Touring σ args t
+    Apart (places_in t) → Touring σ args t

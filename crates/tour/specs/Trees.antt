@@ -23,9 +23,9 @@ abbrev pub places : Forest → List ℕ
 places none = []
 places (node p r c kids rest) = p ∷ places rest
 
-abbrev pub all_places_lem : Forest → List ℕ
-all_places_lem none = []
-all_places_lem (node p r c kids rest) = p ∷ (all_places_lem kids ++ all_places_lem rest)
+abbrev pub places_in : Forest → List ℕ
+places_in none = []
+places_in (node p r c kids rest) = p ∷ (places_in kids ++ places_in rest)
 
 -- the roots have rules of these symbols, and so on below
 abbrev pub Agrees : Grammar → Forest → List ℕ → Type 0

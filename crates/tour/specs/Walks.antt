@@ -11,7 +11,7 @@ use Rattle.tour.specs.Trees.Forest.{none, node}
 use Rattle.tour.specs.Touring.{tour}
 use Rattle.tour.specs.Nodes.{Table, Shows}
 use Rattle.tour.specs.Nodes.Link.{under}
-use Rattle.tour.specs.Shapes.{Shape, tree_at_lem}
+use Rattle.tour.specs.Shapes.{Shape, tree_from}
 
 -- the plan of the rule at a place
 abbrev pub plan_at : Grammar → Table → ℕ → List Instruction
@@ -119,5 +119,5 @@ pub record Moves (σ : Grammar) (T : Table) (t : Forest) : Type 0 where
 pub record WalkLaw : Type 0 where
   pub starts :
       (σ : Grammar) → Sound σ → (T : Table) (used : ℕ → Bool) (root : ℕ) → Shape σ T used root →
-      Walking σ T (tree_at_lem T 63 root) 63 ((root, 0) ∷ []) []
+      Walking σ T (tree_from T 63 root) 63 ((root, 0) ∷ []) []
   pub moves : (σ : Grammar) → Sound σ → (T : Table) (t : Forest) → Moves σ T t

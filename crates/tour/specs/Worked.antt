@@ -9,7 +9,7 @@ use Rattle.tour.specs.Touring.{tour}
 use Rattle.tour.specs.Nodes.{Cell, Table}
 use Rattle.tour.specs.Nodes.Link.{top, under}
 use Rattle.tour.specs.Results.{Meaning, engine}
-use Rattle.tour.specs.Shapes.{Shape, tree_at_lem}
+use Rattle.tour.specs.Shapes.{Shape, tree_from}
 use Rattle.tour.specs.Blocks.{pieces, reads}
 
 -- rule and code of each node, in preorder
@@ -43,7 +43,7 @@ pub record WorkedTour : Type 0 where
   pub read : reads day (0 ∷ []) written ≡ true
   pub in_preorder : pieces opened ≡ written
   pub shaped : Shape day table used 0
-  pub read_off : tree_at_lem table 63 0 ≡ opened
+  pub read_off : tree_from table 63 0 ≡ opened
   -- the tour evaluates what comes first bottom up, and then start, follower and end of each item in turn
   pub thirteen :
       tour day opened

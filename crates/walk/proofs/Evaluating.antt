@@ -151,7 +151,7 @@ ready g ps m w so e =
     (λ q s. All-weaker (Taken (scope_of_rule g.symbols ρ)) (NamedIn (length ρ.right)) (taken_named g.symbols ρ) q.arguments s.arguments_taken) ρ.equations sr.equations_sound) in
     let names = evaluate_names g ps p m.occurrence m.attribute w so e.rule_place_used e.stands in
     record {
-      equation_there = λ h. h only.0 only.1.equation only.1.stands only.1.occurrence_is only.1.attribute_is_lem;
+      equation_there = λ h. h only.0 only.1.equation only.1.stands only.1.occurrence_is only.1.attribute_is;
       named = subst (λ n. AllByRecursion (NamedIn n) (equation m.occurrence m.attribute ρ.equations).arguments) (sym (kids_right g ps p e.rule_place_used)) named;
       few = All-weaker (NamedIn (length ρ.right)) (NamedIn 4) (named_weaker (length ρ.right) 4 sr.few_right) (equation m.occurrence m.attribute ρ.equations).arguments named;
       attribute_small = names.1;

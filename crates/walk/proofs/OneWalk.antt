@@ -6,7 +6,7 @@ use Rattle.places.specs.declared.node.Node.{Node}
 use Rattle.tour.specs.Runs.{args}
 use Rattle.tour.specs.Results.{Meaning, engine}
 use Rattle.tour.specs.Runs.{In, Step}
-use Rattle.tour.specs.Shapes.{tree_at_lem}
+use Rattle.tour.specs.Shapes.{tree_from}
 use Rattle.tour.specs.Trees.{Instance}
 use Rattle.tour.proofs.Lists.{in_cases}
 use Rattle.walk.specs.Ahead.{ahead, instance_of}
@@ -39,7 +39,7 @@ pub step_made : {V : Type 0} (M : Meaning V) (g : Grammar) (ps qs : List (Option
     → FirstOwed g ps root m t
     → Evaluates M g (table g ps) (instance_of m) changed (value_at (M.leaf 0) vs) (value_at (M.leaf 0) ws)
     → ((y : Instance) → In y scope → (owed_at qs y ≡ true) ↔ (((y ≡ instance_of m → ⊥) × (owed_at ps y ≡ true)) ⊎ ((changed ≡ true) × In (instance_of m) (args g (table g ps) y))))
-    → Step (engine M g (table g ps) (tree_at_lem (table g ps) 63 root) scope) (state_of (M.leaf 0) ps vs) (instance_of m) changed (state_of (M.leaf 0) qs ws)
+    → Step (engine M g (table g ps) (tree_from (table g ps) 63 root) scope) (state_of (M.leaf 0) ps vs) (instance_of m) changed (state_of (M.leaf 0) qs ws)
 step_made M g ps qs root scope vs ws m t changed f e marks = record {
   front = f.front;
   back = ahead g (table g ps) t;

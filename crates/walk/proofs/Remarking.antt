@@ -18,7 +18,7 @@ like_cell : (g : Grammar) (n m : Option Node) → Like n m → cell_of g m ≡ c
 like_cell g None None h = refl
 like_cell g None (Some m) h = absurd h
 like_cell g (Some n) None h = absurd h
-like_cell g (Some n) (Some m) h = λ i. record { rule = h.same_rule_lem i; code = h.same_datum i; link = link_of (h.same_parent i); kids = firsts (arity g (h.same_rule_lem i)) (h.same_children i) }
+like_cell g (Some n) (Some m) h = λ i. record { rule = h.same_rule i; code = h.same_datum i; link = link_of (h.same_parent i); kids = firsts (arity g (h.same_rule i)) (h.same_children i) }
 
 like_parent : (n m : Option Node) → Like n m → parent_in m ≡ parent_in n
 like_parent None None h = refl
@@ -29,14 +29,14 @@ like_parent (Some n) (Some m) h = h.same_parent
 like_child : (g : Grammar) (p k x : ℕ) (n m : Option Node) → Like n m → ChildThere g p k x n → ChildThere g p k x m
 like_child g p k x None m h c = absurd c
 like_child g p k x (Some n) None h c = absurd h
-like_child g p k x (Some n) (Some m) h c = record { hangs = h.same_parent ∙ c.hangs; symbol_is = ap (λ r. (rule g r).left) h.same_rule_lem ∙ c.symbol_is }
+like_child g p k x (Some n) (Some m) h c = record { hangs = h.same_parent ∙ c.hangs; symbol_is = ap (λ r. (rule g r).left) h.same_rule ∙ c.symbol_is }
 
 like_above : (g : Grammar) (p k : ℕ) (n m : Option Node) → Like n m → ParentThere g p k n → ParentThere g p k m
 like_above g p k None m h c = absurd c
 like_above g p k (Some n) None h c = absurd h
 like_above g p k (Some n) (Some m) h c = record {
   first = c.first;
-  last = subst (λ r. k ≤ arity g r) (sym h.same_rule_lem) c.last;
+  last = subst (λ r. k ≤ arity g r) (sym h.same_rule) c.last;
   points = ap (λ l. get_or l (k - 1) 0) h.same_children ∙ c.points;
 }
 
@@ -72,12 +72,12 @@ module _ (g : Grammar) (ps qs : List (Option Node)) (r : Remarked g ps qs) where
 
   sound_too : (p : ℕ) (n m : Node) → LikeNode n m → SoundNode g ps p n → at qs p ≡ Some m → SoundNode g qs p m
   sound_too p n m l s e = record {
-    rule_there = subst (λ x. x < length g.rules) (sym l.same_rule_lem) s.rule_there;
+    rule_there = subst (λ x. x < length g.rules) (sym l.same_rule) s.rule_there;
     row = ap length l.same_children ∙ s.row;
     children_there = λ k h.
-        let c = s.children_there k (subst (λ x. k < arity g x) l.same_rule_lem h) in
+        let c = s.children_there k (subst (λ x. k < arity g x) l.same_rule h) in
         let d = like_child g p k (get_or (rule g n.rule).right k 0) (at ps (get_or n.children k 0)) (at qs (get_or n.children k 0)) (r.alike (get_or n.children k 0)) c in
-        subst (λ x. ChildThere g p k (get_or (rule g x).right k 0) (at qs (get_or m.children k 0))) (sym l.same_rule_lem)
+        subst (λ x. ChildThere g p k (get_or (rule g x).right k 0) (at qs (get_or m.children k 0))) (sym l.same_rule)
         (subst (λ x. ChildThere g p k (get_or (rule g n.rule).right k 0) (at qs (get_or x k 0))) (sym l.same_children) d);
     parent_there = subst (HangsBelow g qs p) (sym l.same_parent) (hangs_too p n.parent s.parent_there);
     ends = climbs_same 64 p ∙ s.ends;

@@ -9,7 +9,7 @@ use Rattle.places.specs.declared.node.Node.{Node}
 use Rattle.places.specs.declared.node.Parent.{Parent}
 use Rattle.tour.specs.Nodes.Link.{under}
 use Rattle.tour.specs.Rules.{rule}
-use Rattle.tour.specs.Shapes.{Climbs, Shape, grow, tree_at_lem}
+use Rattle.tour.specs.Shapes.{Climbs, Shape, grow, tree_from}
 use Rattle.tour.proofs.Ruled.{Accepted}
 use Rattle.tour.proofs.Deep.{deep_tour}
 use Rattle.tour.proofs.Shapes.{shape_planted, day_rooted}
@@ -98,5 +98,5 @@ module _ (g : Grammar) (ps : List (Option Node)) where
           enough_room = h;
           framed = ((grow T 63 root, p.shown.2, p.shown.4, p.agrees.2, p.depth.0, l, some), tt);
         };
-        whole = walk_begins g T 63 root ∙ deep_tour g T (tree_at_lem T 63 root) 64 (shape_planted g T (used ps) root wa s) p.depth;
+        whole = walk_begins g T 63 root ∙ deep_tour g T (tree_from T 63 root) 64 (shape_planted g T (used ps) root wa s) p.depth;
       }

@@ -10,7 +10,7 @@ use Rattle.walk.specs.Walking.{Walking}
 
 -- two nodes that differ in nothing but their marks
 pub record LikeNode (n m : Node) : Type 0 where
-  pub same_rule_lem : m.rule ≡ n.rule
+  pub same_rule : m.rule ≡ n.rule
   pub same_datum : m.datum ≡ n.datum
   pub same_parent : m.parent ≡ n.parent
   pub same_children : m.children ≡ n.children

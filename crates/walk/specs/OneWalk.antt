@@ -3,7 +3,7 @@ use Rattle.std.specs.Prelude.{◌≡◌, ℕ, true, List, [], ◌∷◌, ◌++�
 use Rattle.grammar.specs.Model.{Grammar}
 use Rattle.places.specs.Places.{table, owed_at}
 use Rattle.places.specs.declared.node.Node.{Node}
-use Rattle.tour.specs.Shapes.{tree_at_lem}
+use Rattle.tour.specs.Shapes.{tree_from}
 use Rattle.tour.specs.Touring.{tour}
 use Rattle.tour.specs.Trees.{Instance}
 use Rattle.walk.specs.Ahead.{ahead, instance_of}
@@ -12,7 +12,7 @@ use Rattle.walk.specs.Walking.{Unowed, OwedNext, NoneOwed}
 use Rattle.walk.specs.declared.walker.Met.{Met}
 
 abbrev pub tour_of : Grammar → List (Option Node) → ℕ → List Instance
-tour_of g ps root = tour g (tree_at_lem (table g ps) 63 root)
+tour_of g ps root = tour g (tree_from (table g ps) 63 root)
 
 -- what is done and what is ahead make the tour
 abbrev pub Along : Grammar → List (Option Node) → ℕ → List Instance → Stand → Type 0

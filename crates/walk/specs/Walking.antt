@@ -7,7 +7,7 @@ use Rattle.places.specs.Places.{used, table, owed_at}
 use Rattle.places.specs.Shape.{SoundPlaces}
 use Rattle.places.specs.declared.node.Node.{Node}
 use Rattle.tour.specs.Runs.{In}
-use Rattle.tour.specs.Shapes.{tree_at_lem}
+use Rattle.tour.specs.Shapes.{tree_from}
 use Rattle.tour.specs.Touring.{tour}
 use Rattle.tour.specs.Trees.{Instance, at_of}
 use Rattle.tour.specs.Walks.{plan_at, Framed}
@@ -50,7 +50,7 @@ pub record Walking (g : Grammar) (ps : List (Option Node)) (s : Stand) : Type 0 
 -- at the start all of the tour is ahead
 pub record Started (g : Grammar) (ps : List (Option Node)) (root : ℕ) (s : Stand) : Type 0 where
   pub walking : Walking g ps s
-  pub whole : ahead g (table g ps) s ≡ tour g (tree_at_lem (table g ps) 63 root)
+  pub whole : ahead g (table g ps) s ≡ tour g (tree_from (table g ps) 63 root)
 
 -- what a walk met: an evaluation that stands in the plan at a used place, and where its occurrence stands
 pub record Meeting (g : Grammar) (ps : List (Option Node)) (m : Met) : Type 0 where

@@ -6,7 +6,7 @@ use Rattle.grammar.specs.declared.terms.Flow.TheVariants.{Inherited}
 use Rattle.plans.specs.Groups.{group_scope}
 use Rattle.sheet.specs.Answers.{grammar_of, group_rule}
 use Rattle.tour.specs.Rules.{rule}
-use Rattle.tour.specs.Nodes.{attributes_at_lem}
+use Rattle.tour.specs.Nodes.{attributes_of}
 use Rattle.places.specs.Places.{at, table}
 use Rattle.exchange.specs.Takers.{Fits, FitsThere}
 use Rattle.exchange.specs.Waking.{is_at}
@@ -49,7 +49,7 @@ loop-a-preserved c =
     let r : option_map group_rule (Some k) ≡ slice_get g.rules c.in-Some.node.rule = search rules in
     let s : (group_scope k).symbols ≡ g.symbols = search rules in
     woke_more ps c.loop-a.places c.wake_if_inherited.new.places _ (λ x. is_at c.args.p c.loop-a.a x && takes (group_scope k) 0 c.loop-a.a) _
-    (inherited_more (λ a. flows Inherited (slice_get (attributes_at_lem g (table g ps) c.args.p) a)) c.args.p c.loop-a.a (takes (group_scope k) 0 c.loop-a.a) (taken_left g ps c.args.p c.loop-a.a c.in-Some.node k e r s))
+    (inherited_more (λ a. flows Inherited (slice_get (attributes_of g (table g ps) c.args.p) a)) c.args.p c.loop-a.a (takes (group_scope k) 0 c.loop-a.a) (taken_left g ps c.args.p c.loop-a.a c.in-Some.node k e r s))
     c.loop-a.invariant c.wake_if_inherited.ensures
 
 pub returns : goal.returns
@@ -59,4 +59,4 @@ returns c =
     let e : at ps c.args.p ≡ Some c.in-Some.node = search rules in
     let f : Fits g ps c.in-Some.node = subst (FitsThere g ps) e c.requires in
     let few = few_attributes g (rule g (table g ps c.args.p).rule).left (sound_sheet c.args.sheet.now c.in-Some.node.rule f.rule_there) in
-    woke_as ps c.loop-a.places _ _ (inherited_all (attributes_at_lem g (table g ps) c.args.p) c.args.p c.loop-a.a (omega arith)) c.loop-a.invariant
+    woke_as ps c.loop-a.places _ _ (inherited_all (attributes_of g (table g ps) c.args.p) c.args.p c.loop-a.a (omega arith)) c.loop-a.invariant
