@@ -17,8 +17,8 @@ returns c =
     let slash : List ℕ = 47 ∷ [] in
     let one = c.lettered-text.ensures ∙ sym (take_all 40 v (omega arith)) in
     let two = piece v _ slash _ one c.push.ensures in
-    let three = piece (v ++ slash) _ f _ two c.push-number.ensures in
+    let three = piece (v ++ slash) _ f _ two c.push_number.ensures in
     let four = piece ((v ++ slash) ++ f) _ slash _ three c.push-2.ensures in
-    let five = piece (((v ++ slash) ++ f) ++ slash) _ n _ four c.push-number-2.ensures in
+    let five = piece (((v ++ slash) ++ f) ++ slash) _ n _ four c.push_number-2.ensures in
     let e : (((v ++ slash) ++ f) ++ slash) ++ n ≡ path_text p = simp append_assoc in
     whole ((((v ++ slash) ++ f) ++ slash) ++ n) (path_text p) _ five e (simp length-append (omega arith))

@@ -9,5 +9,5 @@ returns c =
     let n = numeral c.args.n in
     let l : length n ≤ 10 = length_numeral c.args.n (omega arith) in
     let one = piece [] _ letter _ c.new-text.ensures c.push.ensures in
-    let two = piece letter _ n _ one c.push-number.ensures in
+    let two = piece letter _ n _ one c.push_number.ensures in
     whole (c.args.letter ∷ n) (c.args.letter ∷ n) _ two refl (omega arith)
