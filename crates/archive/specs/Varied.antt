@@ -1,8 +1,6 @@
 -- An archive that tells values apart.
-use Rattle.std.specs.Prelude.{◌≡◌, ℕ, Bool, List, [], ◌∷◌, ◌≢◌}
+use Rattle.std.specs.Prelude.{ℕ, Bool, List, [], ◌∷◌, ◌≢◌}
 use Rattle.std.specs.List.{AllByRecursion as All}
-use Rattle.archive.specs.declared.by_id.Identifier.{Identifier}
-use Rattle.archive.specs.declared.by_path.Path.{Path}
 use Rattle.archive.specs.declared.clip.Row.{Row}
 use Rattle.archive.specs.declared.house.House.{House}
 use Rattle.archive.specs.Functions.{result_of}
