@@ -7,6 +7,6 @@ use Rattle.std.proofs.lemmas.Bool.Decides.{Decides-eqb}
 pub returns : goal.returns
 returns g c =
     told (g.P.Printable.texts c.args.archive.now) (g.P.Printable.apart c.args.archive.now) c.args.v c.args.w
-    c.as-slice.result.now c.as-slice-2.result.now c.eq.result
-    (c.as-slice.ensures ∙ c.text-one.ensures.says) (c.as-slice-2.ensures ∙ c.text-other.ensures.says)
-    (slice_eq-Decides Decides-eqb c.as-slice.result.now c.as-slice-2.result.now c.eq.result c.eq.ensures)
+    c.as_slice.result.now c.as_slice-2.result.now c.eq.result
+    (c.as_slice.ensures ∙ c.text-one.ensures.says) (c.as_slice-2.ensures ∙ c.text-other.ensures.says)
+    (slice_eq-Decides Decides-eqb c.as_slice.result.now c.as_slice-2.result.now c.eq.result c.eq.ensures)
