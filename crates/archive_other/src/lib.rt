@@ -4,14 +4,13 @@
 mod generic;
 mod harbour;
 
-use archive::{Archive, Printable};
 pub use generic::{evaluated, steady, told_by_text};
 pub use harbour::{Harbour, Tide};
 
 #[cfg(test)]
 mod tests {
     use super::*;
-    use archive::{Archive, ById, ByPath, Clip, Identifier, Path, Printable, Row, supplied};
+    use archive::{Archive, ById, ByPath, Identifier, Path, Printable, Row, supplied};
     use std::test::Fail;
 
     // Whether a function gives, of the values that two codes stand for, the value with that text.
