@@ -1,9 +1,9 @@
 -- Two rows that the functions of the house tell apart.
-use Rattle.std.proofs.Common.{◌≡◌, ℕ, List, [], ◌∷◌, ap, arith}
+use Rattle.std.proofs.Common.{◌≡◌, ℕ, [], ◌∷◌, ap, arith}
 use Rattle.archive.specs.declared.by_id.Identifier.{Identifier}
 use Rattle.archive.specs.declared.by_path.Path.{Path}
 use Rattle.archive.specs.declared.house.House.{House}
-use Rattle.archive.specs.declared.house.House.TheVariants.{Nothing, Frames, Clip}
+use Rattle.archive.specs.declared.house.House.TheVariants.{Frames, Clip}
 use Rattle.archive.specs.Varied.{Different, VariedByIdentifier, VariedByPath}
 
 frames : {C : Type 0} (m n : ℕ) → (m ≡ n → ⊥) → ◌≡◌ {A = House C} (Frames m) (Frames n) → ⊥

@@ -1,11 +1,10 @@
 -- Looking for a clip, row by row.
-use Rattle.std.proofs.Common.{◌≡◌, ℕ, zero, suc, ◌+◌, ◌-◌, ◌<◌, ◌≤◌, Bool, true, false, cond, List, [], ◌∷◌, length, get_or, drop, Some, None, Option, sym, refl, ap, ◌∙◌, arith}
+use Rattle.std.proofs.Common.{◌≡◌, ℕ, zero, suc, ◌+◌, ◌-◌, ◌<◌, ◌≤◌, Bool, cond, List, length, get_or, drop, Some, sym, refl, ap, ◌∙◌, arith}
 use Rattle.std.proofs.lemmas.List.{at_drop_more}
 use Rattle.archive.specs.declared.clip.Row.{Row}
 use Rattle.std.specs.List.{slice_get}
 use Rattle.std.proofs.lemmas.Option.{slice_get_read, slice_get_past}
 use Rattle.archive.specs.declared.by_path.Path.{Path}
-use Rattle.archive.specs.declared.house.House.{House}
 use Rattle.archive.specs.declared.house.House.TheVariants.{Nothing, Clip}
 use Rattle.archive.specs.Rows.{length_of}
 use Rattle.archive.specs.Settings.{leaf_by_path, clip_in}

@@ -1,6 +1,6 @@
 -- Two clips are one where they match, and where they have one text; so are two values of the house.
 -- These are proofs. They stand here since ghost members hold them, and those take from specs/ alone.
-use Rattle.std.specs.Prelude.{◌≡◌, ℕ, true, ◌&&◌, List, [], ◌∷◌, ◌++◌, Decides, ◌==◌, slice_index, refl}
+use Rattle.std.specs.Prelude.{◌≡◌, ℕ, ◌&&◌, List, ◌∷◌, ◌++◌, Decides, ◌==◌, slice_index, refl}
 use Rattle.std.proofs.Common.{sym, ap, arith}
 use Rattle.std.proofs.lemmas.Bool.Decides.{Decides-like, Decides-and, Decides-eqb}
 use Rattle.archive.specs.declared.by_id.Identifier.{Identifier}

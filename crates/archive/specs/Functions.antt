@@ -1,8 +1,7 @@
 -- The functions of the house, and how its values are written.
-use Rattle.std.specs.Prelude.{ℕ, ◌+◌, min, max, Bool, List, [], ◌∷◌, Some, None, Option}
+use Rattle.std.specs.Prelude.{ℕ, ◌+◌, min, max, List, [], ◌∷◌, Some, None, Option}
 use Rattle.std.specs.Option.{option_map}
 use Rattle.std.specs.List.{slice_get}
-use Rattle.archive.specs.declared.clip.Row.{Row}
 use Rattle.archive.specs.declared.house.Function.{Function}
 use Rattle.archive.specs.declared.house.Function.TheVariants.{Zero, Copied, Sum, Extended, Choice, Later, Blank}
 use Rattle.archive.specs.declared.house.House.{House}

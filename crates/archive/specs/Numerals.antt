@@ -1,8 +1,8 @@
 -- No two numbers have one numeral, and a numeral ends at the byte / behind it: proofs, for Apart.
-use Rattle.std.specs.Prelude.{◌≡◌, ℕ, zero, suc, ◌+◌, ◌-◌, ◌<◌, ◌≤◌, List, [], ◌∷◌, ◌++◌, map, ◌≢◌, slice_index, slice_index_or, refl}
+use Rattle.std.specs.Prelude.{◌≡◌, ℕ, zero, suc, ◌+◌, ◌-◌, ◌<◌, List, [], ◌∷◌, ◌++◌, map, ◌≢◌, slice_index, slice_index_or, refl}
 use Rattle.std.proofs.Common.{sym, ap, ◌∙◌, arith}
 use Rattle.std.specs.Int.Digits.{digits_of}
-use Rattle.std.specs.List.{AllByRecursion as All}
+use Rattle.std.specs.List.{AllByRecursion}
 use Rattle.std.proofs.lemmas.Int.Digits.{same_from_digits_of, first_digits_of}
 use Rattle.archive.specs.Texts.{numeral}
 
@@ -24,15 +24,15 @@ same_from_numeral (suc m) (suc n) h =
     same_from_digits_of 10 (suc m) (suc n) (omega arith)
     (sym (back_map (digits_of 10 (suc m))) ∙ ap (λ (l : List ℕ). map (λ d. d - 48) l) h ∙ back_map (digits_of 10 (suc n)))
 
-above_slash : (xs : List ℕ) → All (λ b. 47 < b) (map (λ d. 48 + d) xs)
+above_slash : (xs : List ℕ) → AllByRecursion (λ b. 47 < b) (map (λ d. 48 + d) xs)
 above_slash [] = tt
 above_slash (x ∷ xs) = (omega arith, above_slash xs)
 
-numeral_above : (n : ℕ) → All (λ b. 47 < b) (numeral n)
+numeral_above : (n : ℕ) → AllByRecursion (λ b. 47 < b) (numeral n)
 numeral_above zero = (omega arith, tt)
 numeral_above (suc n) = above_slash (digits_of 10 (suc n))
 
-cut : (xs ys rest more : List ℕ) → All (λ b. 47 < b) xs → All (λ b. 47 < b) ys → xs ++ 47 ∷ rest ≡ ys ++ 47 ∷ more → (xs ≡ ys) × (rest ≡ more)
+cut : (xs ys rest more : List ℕ) → AllByRecursion (λ b. 47 < b) xs → AllByRecursion (λ b. 47 < b) ys → xs ++ 47 ∷ rest ≡ ys ++ 47 ∷ more → (xs ≡ ys) × (rest ≡ more)
 cut [] [] rest more p q h = (refl, cc)
 cut [] (y ∷ ys) rest more p q h = let z : ◌≡◌ {A = ℕ} 47 y = cc in absurd (omega (arith, q.0))
 cut (x ∷ xs) [] rest more p q h = let z : ◌≡◌ {A = ℕ} x 47 = cc in absurd (omega (arith, p.0))

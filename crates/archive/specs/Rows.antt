@@ -1,5 +1,5 @@
 -- What a catalogue says of a clip.
-use Rattle.std.specs.Prelude.{◌≡◌, ℕ, Bool, cond, List, [], ◌∷◌, Some, None, Option, ◌≢◌, slice_index}
+use Rattle.std.specs.Prelude.{ℕ, Bool, cond, List, [], ◌∷◌, Some, None, Option, ◌≢◌, slice_index}
 use Rattle.archive.specs.declared.clip.Row.{Row}
 
 -- the length in the first row that matches

@@ -1,11 +1,11 @@
 -- The two settings: what a code stands for, and how a clip is written.
-use Rattle.std.specs.Prelude.{ℕ, zero, suc, Bool, ◌&&◌, List, [], ◌∷◌, ◌++◌, Some, None, Option, ◌==◌}
+use Rattle.std.specs.Prelude.{ℕ, zero, suc, Bool, ◌&&◌, List, ◌∷◌, ◌++◌, Some, None, Option, ◌==◌}
 use Rattle.std.specs.List.{slice_get}
 use Rattle.archive.specs.declared.by_id.Identifier.{Identifier}
 use Rattle.archive.specs.declared.by_path.Path.{Path}
 use Rattle.archive.specs.declared.clip.Row.{Row}
 use Rattle.archive.specs.declared.house.House.{House}
-use Rattle.archive.specs.declared.house.House.TheVariants.{Nothing, Frames, Clip}
+use Rattle.archive.specs.declared.house.House.TheVariants.{Nothing, Clip}
 use Rattle.archive.specs.Texts.{numeral}
 
 -- by identifier: nothing, or that clip

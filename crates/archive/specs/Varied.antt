@@ -1,8 +1,6 @@
 -- An archive that tells values apart.
-use Rattle.std.specs.Prelude.{◌≡◌, ℕ, Bool, List, [], ◌∷◌, ◌≢◌}
-use Rattle.std.specs.List.{AllByRecursion as All}
-use Rattle.archive.specs.declared.by_id.Identifier.{Identifier}
-use Rattle.archive.specs.declared.by_path.Path.{Path}
+use Rattle.std.specs.Prelude.{ℕ, Bool, List, [], ◌∷◌, ◌≢◌}
+use Rattle.std.specs.List.{AllByRecursion}
 use Rattle.archive.specs.declared.clip.Row.{Row}
 use Rattle.archive.specs.declared.house.House.{House}
 use Rattle.archive.specs.Functions.{result_of}
@@ -12,7 +10,7 @@ use Rattle.archive.specs.Settings.{same_identifier, leaf_by_id, same_path, leaf_
 -- no two of them are equal
 abbrev pub Different : {V : Type 0} → List V → Type 0
 Different [] = Unit {0}
-Different (v ∷ vs) = All (λ w. v ≢ w) vs × Different vs
+Different (v ∷ vs) = AllByRecursion (λ w. v ≢ w) vs × Different vs
 
 -- the length of the clip that a code stands for, added to no frames
 abbrev pub length_at : {V : Type 0} → (ℕ → V) → (ℕ → V → V → V → V) → ℕ → V

@@ -37,7 +37,7 @@ impl<C: Clip> Archive for Catalogue<C> {
 
     ghost counts = { λ s f. count_of f };
 
-    ghost result = { λ s f a b c. result_of (length_of C.Clip.matches s.rows.items) f a b };
+    ghost results = { λ s f a b c. result_of (length_of C.Clip.matches s.rows.items) f a b };
 
     fn count(&self, function: u8) -> Option<u8> {
         Function::count(function)

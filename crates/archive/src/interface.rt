@@ -16,7 +16,7 @@ pub trait Archive {
 
     ghost counts: { Self → ℕ → Maybe ℕ };
 
-    ghost result: { Self → ℕ → Self.Value → Self.Value → Self.Value → Self.Value };
+    ghost results: { Self → ℕ → Self.Value → Self.Value → Self.Value → Self.Value };
 
     // How many arguments a function takes; None where it is unknown.
     fn count(&self, function: u8) -> Option<u8>
@@ -28,7 +28,7 @@ pub trait Archive {
 
     // What a function gives of three values.
     fn apply(&self, function: u8, a: Self::Value, b: Self::Value, c: Self::Value) -> Self::Value
-        ensures* { λ r. ⌜ r ≡ result self.now function a b c ⌝ };
+        ensures { result ≡ results self.now function a b c };
 
     // Whether two values are equal.
     fn same(&self, a: Self::Value, b: Self::Value) -> bool
@@ -50,7 +50,7 @@ pub trait Printable: Archive {
 
 // A value that a function is applied to: the argument, or the leaf of 0 where it is missing.
 pub fn supplied<A: Archive>(archive: &A, argument: Option<A::Value>) -> A::Value
-    ensures { result ≡ unwrap_or argument (leafs archive.now 0) }
+    ensures { result ≡ unwrap_or argument (A.leafs archive.now 0) }
 {
     match argument {
         Some(value) => value,
@@ -60,7 +60,7 @@ pub fn supplied<A: Archive>(archive: &A, argument: Option<A::Value>) -> A::Value
 
 // The three values that a function is applied to, of the arguments that there are.
 pub fn filled<A: Archive>(archive: &A, arguments: &[A::Value]) -> (A::Value, A::Value, A::Value)
-    ensures { result ≡ first_three (leafs archive.now 0) arguments.now }
+    ensures { result ≡ first_three (A.leafs archive.now 0) arguments.now }
 {
     (
         supplied(archive, arguments.get(0).copied()),

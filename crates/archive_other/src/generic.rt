@@ -7,7 +7,7 @@ use archive::{Archive, Printable, filled};
 
 // What a function gives of some arguments.
 pub fn evaluated<A: Archive>(archive: &A, function: u8, arguments: &[A::Value]) -> A::Value
-    ensures { result ≡ applied (A.Archive.result archive.now function) (first_three (A.Archive.leafs archive.now 0) arguments.now) }
+    ensures { result ≡ applied (A.Archive.results archive.now function) (first_three (A.Archive.leafs archive.now 0) arguments.now) }
 {
     let (a, b, c) = filled(archive, arguments);
     archive.apply(function, a, b, c)

@@ -24,7 +24,7 @@ impl Archive for Harbour {
 
     ghost counts = { λ s f. count_of f };
 
-    ghost result = { λ s f a b c. result_of f a b c };
+    ghost results = { λ s f a b c. result_of f a b c };
 
     fn count(&self, function: u8) -> Option<u8> {
         match function {

@@ -4,14 +4,13 @@
 mod generic;
 mod harbour;
 
-use archive::{Archive, Printable};
 pub use generic::{evaluated, steady, told_by_text};
 pub use harbour::{Harbour, Tide};
 
 #[cfg(test)]
 mod tests {
     use super::*;
-    use archive::{Archive, ById, ByPath, Clip, Identifier, Path, Printable, Row, supplied};
+    use archive::{Archive, ById, ByPath, Identifier, Path, Printable, Row, supplied};
     use std::test::Fail;
 
     // Whether a function gives, of the values that two codes stand for, the value with that text.
@@ -61,24 +60,24 @@ mod tests {
         let zero = evaluated(&archive, 0, &[]);
         let short = evaluated(&archive, 3, &[zero, archive.leaf(7)]);
         let long = evaluated(&archive, 3, &[zero, archive.leaf(9)]);
-        assert!(rt; archive.text(short).as_slice() == b"f1000");
+        assert!(rt; archive.text(short).as_slice() == b"f1000".as_slice());
         assert!(rt;
             archive
                 .text(evaluated(&archive, 2, &[short, long]))
                 .as_slice()
-                == b"f4294967295"
+                == b"f4294967295".as_slice()
         );
         assert!(rt;
             archive
                 .text(evaluated(&archive, 5, &[short, zero]))
                 .as_slice()
-                == b"f1000"
+                == b"f1000".as_slice()
         );
         assert!(rt;
             archive
                 .text(evaluated(&archive, 3, &[zero, archive.leaf(8)]))
                 .as_slice()
-                == b"-"
+                == b"-".as_slice()
         );
         Ok(())
     }
@@ -112,7 +111,7 @@ mod tests {
         let zero = evaluated(&archive, 0, &[]);
         let short = evaluated(&archive, 3, &[zero, archive.leaf(2)]);
         let both = evaluated(&archive, 3, &[short, archive.leaf(1)]);
-        assert!(rt; archive.text(both).as_slice() == b"f1024");
+        assert!(rt; archive.text(both).as_slice() == b"f1024".as_slice());
         Ok(())
     }
 }

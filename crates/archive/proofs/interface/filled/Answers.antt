@@ -1,4 +1,3 @@
-use Rattle.std.proofs.Common.{◌≡◌}
 use Rattle.archive.proofs.Supplying.{supplied_from}
 use Rattle.archive.proofs.interface.filled.Goals as goal
 
