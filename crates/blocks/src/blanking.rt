@@ -36,8 +36,8 @@ pub fn blank_values<A: Archive>(
     requires judged { reads (grammar_of sheet.now) (own_symbol (grammar_of sheet.now) block.now ∷ []) (pairs block.now) ≡ true }
     requires room { length block.now ≤ length (free places.now) }
     requires entries { 16 * length places.now ≤ length values.old }
-    ensures entries { values.new ≡ blanked (grammar_of sheet.now) (leafs archive.now 0) block.now (taken places.now (length block.now)) values.old }
-    ensures blank { (f : Forest) → BlockTree (grammar_of sheet.now) places.now block.now f → Blanked (grammar_of sheet.now) (leafs archive.now 0) f values.old values.new }
+    ensures entries { values.new ≡ blanked (grammar_of sheet.now) (A.leafs archive.now 0) block.now (taken places.now (length block.now)) values.old }
+    ensures blank { (f : Forest) → BlockTree (grammar_of sheet.now) places.now block.now f → Blanked (grammar_of sheet.now) (A.leafs archive.now 0) f values.old values.new }
 {
     let blank = archive.leaf(0);
     let mut next = 0;

@@ -43,7 +43,7 @@ pub fn value_at<A: Archive>(
     place: u16,
     attribute: u16,
 ) -> A::Value
-    ensures { result ≡ value_at (leafs archive.now 0) values.now (place, attribute) }
+    ensures { result ≡ value_at (A.leafs archive.now 0) values.now (place, attribute) }
 {
     if attribute >= 16 {
         return archive.leaf(0);
@@ -71,7 +71,7 @@ fn given<A: Archive>(
 ) -> A::Value
     requires there { used places.now place ≡ true }
     requires few { NamedIf 4 argument }
-    ensures* { λ r. ⌜ ((g : Grammar) → NamedIf (length (table g places.now place).kids) argument → r ≡ given_by (meaning_of (leafs archive.now) (result archive.now)) (table g places.now) place (value_at (leafs archive.now 0) values.now) argument) ⌝ }
+    ensures { (g : Grammar) → NamedIf (length (table g places.now place).kids) argument → result ≡ given_by (meaning_of (A.leafs archive.now) (A.results archive.now)) (table g places.now) place (value_at (A.leafs archive.now 0) values.now) argument }
 {
     match argument {
         None => archive.leaf(0),
@@ -94,7 +94,7 @@ fn argument_value<A: Archive>(
 ) -> A::Value
     requires there { used places.now place ≡ true }
     requires few { AllByRecursion (NamedIn 4) (listed equation.now.arguments) }
-    ensures* { λ r. ⌜ ((g : Grammar) → AllByRecursion (NamedIn (length (table g places.now place).kids)) (listed equation.now.arguments) → r ≡ argument_by (meaning_of (leafs archive.now) (result archive.now)) (table g places.now) place (value_at (leafs archive.now 0) values.now) (listed equation.now.arguments) number) ⌝ }
+    ensures { (g : Grammar) → AllByRecursion (NamedIn (length (table g places.now place).kids)) (listed equation.now.arguments) → result ≡ argument_by (meaning_of (A.leafs archive.now) (A.results archive.now)) (table g places.now) place (value_at (A.leafs archive.now 0) values.now) (listed equation.now.arguments) number }
 {
     let argument = equation.arguments.as_slice().get(number).copied();
     given(archive, places, values, place, argument)
@@ -110,7 +110,7 @@ fn result_of<A: Archive>(
 ) -> A::Value
     requires there { used places.now place ≡ true }
     requires few { AllByRecursion (NamedIn 4) (listed equation.now.arguments) }
-    ensures* { λ r. ⌜ ((g : Grammar) → AllByRecursion (NamedIn (length (table g places.now place).kids)) (listed equation.now.arguments) → r ≡ result_by (meaning_of (leafs archive.now) (result archive.now)) (table g places.now) place (value_at (leafs archive.now 0) values.now) (equation_of equation.now)) ⌝ }
+    ensures { (g : Grammar) → AllByRecursion (NamedIn (length (table g places.now place).kids)) (listed equation.now.arguments) → result ≡ result_by (meaning_of (A.leafs archive.now) (A.results archive.now)) (table g places.now) place (value_at (A.leafs archive.now 0) values.now) (equation_of equation.now) }
 {
     let first = argument_value(archive, places, values, place, equation, 0);
     let second = argument_value(archive, places, values, place, equation, 1);
@@ -151,9 +151,9 @@ pub fn evaluate<A: Archive>(
     requires sound { SoundPlaces (grammar_of sheet.now) places.now }
     requires meeting { Meeting (grammar_of sheet.now) places.now met }
     requires room { 16 * length places.now ≤ length values.old }
-    ensures* table { λ _. ⌜ values.new ≡ slice_set values.old (16 * met.place + met.attribute) (own_result (meaning_of (leafs archive.now) (result archive.now)) (grammar_of sheet.now) (table (grammar_of sheet.now) places.now) met.rule_place met.occurrence met.attribute (value_at (leafs archive.now 0) values.old)) ⌝ }
-    ensures* changed { λ r. ⌜ MatchBool r (value_at (leafs archive.now 0) values.old (instance_of met) ≢ own_result (meaning_of (leafs archive.now) (result archive.now)) (grammar_of sheet.now) (table (grammar_of sheet.now) places.now) met.rule_place met.occurrence met.attribute (value_at (leafs archive.now 0) values.old)) (value_at (leafs archive.now 0) values.old (instance_of met) ≡ own_result (meaning_of (leafs archive.now) (result archive.now)) (grammar_of sheet.now) (table (grammar_of sheet.now) places.now) met.rule_place met.occurrence met.attribute (value_at (leafs archive.now 0) values.old)) ⌝ }
-    ensures* evaluates { λ r. ⌜ Evaluates (meaning_of (leafs archive.now) (result archive.now)) (grammar_of sheet.now) (table (grammar_of sheet.now) places.now) (instance_of met) r (value_at (leafs archive.now 0) values.old) (value_at (leafs archive.now 0) values.new) ⌝ }
+    ensures table { values.new ≡ slice_set values.old (16 * met.place + met.attribute) (own_result (meaning_of (A.leafs archive.now) (A.results archive.now)) (grammar_of sheet.now) (table (grammar_of sheet.now) places.now) met.rule_place met.occurrence met.attribute (value_at (A.leafs archive.now 0) values.old)) }
+    ensures changed { MatchBool result (value_at (A.leafs archive.now 0) values.old (instance_of met) ≢ own_result (meaning_of (A.leafs archive.now) (A.results archive.now)) (grammar_of sheet.now) (table (grammar_of sheet.now) places.now) met.rule_place met.occurrence met.attribute (value_at (A.leafs archive.now 0) values.old)) (value_at (A.leafs archive.now 0) values.old (instance_of met) ≡ own_result (meaning_of (A.leafs archive.now) (A.results archive.now)) (grammar_of sheet.now) (table (grammar_of sheet.now) places.now) met.rule_place met.occurrence met.attribute (value_at (A.leafs archive.now 0) values.old)) }
+    ensures evaluates { Evaluates (meaning_of (A.leafs archive.now) (A.results archive.now)) (grammar_of sheet.now) (table (grammar_of sheet.now) places.now) (instance_of met) result (value_at (A.leafs archive.now 0) values.old) (value_at (A.leafs archive.now 0) values.new) }
 {
     let Some(equation) = equation_met(sheet, places, met) else {
         return false;

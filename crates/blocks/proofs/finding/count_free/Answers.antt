@@ -7,8 +7,8 @@ pub loop-place-preserved : goal.loop-place-preserved
 loop-place-preserved c =
     let f = free_step c.args.places.now c.loop-place.place-index c.loop-place-test.true in
     elim c.if-is_none.branch [
-      | then-is_none w ↦ let e = ap length (f.0 w.if-is_none.ensures) in (omega (arith, w.count_is, c.loop-place.invariant.0, e), omega (arith, w.count_is, c.loop-place.invariant.1))
-      | else-is_none w ↦ let e = ap length (f.1 w.if-is_none.ensures) in (omega (arith, w.count_is, c.loop-place.invariant.0, e), omega (arith, w.count_is, c.loop-place.invariant.1))
+      | then-is_none w ↦ let e = ap length (f.0 w.if-is_none.ensures) in (omega (arith, w.count-is, c.loop-place.invariant.0, e), omega (arith, w.count-is, c.loop-place.invariant.1))
+      | else-is_none w ↦ let e = ap length (f.1 w.if-is_none.ensures) in (omega (arith, w.count-is, c.loop-place.invariant.0, e), omega (arith, w.count-is, c.loop-place.invariant.1))
     ]
 
 pub returns : goal.returns
