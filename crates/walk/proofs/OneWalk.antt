@@ -38,7 +38,7 @@ one_walk g ps root done s e u = record {
 pub step_made : {V : Type 0} (M : Meaning V) (g : Grammar) (ps qs : List (Option Node)) (root : ℕ) (scope : List Instance) (vs ws : List V) (m : Met) (t : Stand) (changed : Bool)
     → FirstOwed g ps root m t
     → Evaluates M g (table g ps) (instance_of m) changed (value_at (M.leaf 0) vs) (value_at (M.leaf 0) ws)
-    → ((y : Instance) → In y scope → (owed_at qs y ≡ true) ↔ (((y ≡ instance_of m → ⊥) × (owed_at ps y ≡ true)) ⊎ ((changed ≡ true) × In (instance_of m) (args g (table g ps) y))))
+    → ((y : Instance) → In y scope → (owed_at qs y ≡ true) ↔ (((y ≡ instance_of m → ⊥) × (owed_at ps y ≡ true)) ⊎ ((changed ≡ true) × In (instance_of m) (args (engine M g (table g ps) (tree_from (table g ps) 63 root) scope) y))))
     → Step (engine M g (table g ps) (tree_from (table g ps) 63 root) scope) (state_of (M.leaf 0) ps vs) (instance_of m) changed (state_of (M.leaf 0) qs ws)
 step_made M g ps qs root scope vs ws m t changed f e marks = record {
   front = f.front;

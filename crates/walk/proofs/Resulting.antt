@@ -27,9 +27,6 @@ module _ {V : Type 0} (M : Meaning V) (g : Grammar) (ps : List (Option Node)) wh
   by_link : Link → ℕ → (Instance → V) → V
   by_link l a v = link_apply M g (table g ps) l a (map (read v) (link_sources M g (table g ps) l a))
 
-  by_link : Link → ℕ → (Instance → V) → V
-  by_link l a v = link_apply M g (table g ps) l a (map (read v) (link_sources M g (table g ps) l a))
-
   -- the equation of an occurrence is the one of the instance that stands there
   result_at_lem : (p o a : ℕ) (v : Instance → V) → SoundPlaces g ps → used ps p ≡ true → Defines g (rule g (table g ps p).rule) o a → result M g (table g ps) (at_of p (table g ps p).kids o, a) v ≡ own_result M g (table g ps) p o a v
   unfolding by_link
@@ -38,7 +35,7 @@ module _ {V : Type 0} (M : Meaning V) (g : Grammar) (ps : List (Option Node)) wh
       let T = table g ps in
       let q : ℕ = get_or (T p).kids k 0 in
       let there : k < length (T p).kids = omega (arith, l, kids_right g ps p u) in
-      ap (λ y. flow-result M g T (get_or (symbol g y).attributes a no_attribute).flow q a v) (kid_symbol g ps p k so u there)
+      ap (λ y. by_link (defining (get_or (symbol g y).attributes a no_attribute).flow q (T q).link) a v) (kid_symbol g ps p k so u there)
       ∙ ap (λ x. by_link (defining x.flow q (T q).link) a v) h.1
       ∙ ap (λ y. by_link y a v) (kid_link g ps p k so u there)
 

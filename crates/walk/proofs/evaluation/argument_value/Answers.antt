@@ -15,7 +15,7 @@ given-requires g c =
 pub returns : goal.returns
 returns g c = λ σ h.
     let e = c.copied-argument.ensures ∙ item_nth _ _ _ c.get.ensures.lookup ∙ ap (λ l. slice_get l c.args.number) c.as_slice.ensures in
-    let M = meaning_of (g.A.Archive.leafs c.args.archive.now) (g.A.Archive.result c.args.archive.now) in
+    let M = meaning_of (g.A.Archive.leafs c.args.archive.now) (g.A.Archive.results c.args.archive.now) in
     let T = table σ c.args.places.now in
     let v = value_at (g.A.Archive.leafs c.args.archive.now 0) c.args.values.now in
     c.given.ensures σ (named_nth _ (listed c.args.equation.now.arguments) c.args.number _ e h)
