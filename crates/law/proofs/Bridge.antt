@@ -1,5 +1,5 @@
 -- What the tables of a rundown that shows a book say of the book's tree.
-use Rattle.std.proofs.Common.{◌≡◌, ℕ, suc, ◌-◌, ◌<◌, true, ◌↔◌, List, map, length, get_or, Option, sym, ap, ◌∙◌, subst, arith}
+use Rattle.std.proofs.Common.{◌≡◌, ℕ, ◌-◌, ◌<◌, true, ◌↔◌, List, map, length, Option, sym, ap, ◌∙◌, subst, arith}
 use Rattle.std.specs.List.{flat_map as joined-rows}
 use Rattle.grammar.specs.Model.{Grammar}
 use Rattle.sheet.specs.Meaning.{Sound}
@@ -8,7 +8,6 @@ use Rattle.tour.specs.Rules.{rule}
 use Rattle.tour.specs.Fresh.{fresh}
 use Rattle.tour.specs.Trees.{Instance, same_instance, places_in, instances}
 use Rattle.tour.specs.Touring.{tour, Touring}
-use Rattle.tour.specs.Nodes.Link.{under}
 use Rattle.tour.specs.Results.{sources, apply, result, engine}
 use Rattle.tour.specs.Shapes.{Shape}
 use Rattle.tour.specs.Roots.{Rooted}
@@ -19,7 +18,7 @@ use Rattle.tour.proofs.Lists.{in_left}
 use Rattle.tour.proofs.Places.{instance_place}
 use Rattle.tour.proofs.Shapes.{day_rooted}
 use Rattle.places.specs.Places.{used, arity, table, owed_at}
-use Rattle.places.specs.Shape.{SoundPlaces, InShape}
+use Rattle.places.specs.Shape.{SoundPlaces}
 use Rattle.places.specs.declared.node.Node.{Node}
 use Rattle.places.proofs.Tables.{used_node, node_used, parent_of_node, under_parent, parent_at_lem, shape_table}
 use Rattle.exchange.specs.Takers.{takers_of}

@@ -4,7 +4,6 @@ use Rattle.std.proofs.lemmas.List.{length-map}
 use Rattle.grammar.specs.Model.{Grammar}
 use Rattle.sheet.specs.Meaning.{Sound}
 use Rattle.tour.specs.Runs.{In, Apart, System, State, Run, Idle}
-use Rattle.tour.specs.Rules.{symbol}
 use Rattle.tour.specs.Incremental.{Settling}
 use Rattle.tour.specs.Trees.{Instance, Forest, same_instance, instances, places_in}
 use Rattle.tour.specs.Touring.{tour}

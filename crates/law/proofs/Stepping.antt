@@ -4,7 +4,6 @@ use Rattle.std.proofs.lemmas.Bool.{lt-ltb, le-ltb, cases_lt, cases_Bool, and_par
 use Rattle.grammar.specs.Model.{Grammar}
 use Rattle.sheet.specs.Meaning.{Sound}
 use Rattle.tour.specs.Runs.{In, System, State, args, Step, Run}
-use Rattle.tour.specs.Rules.{rule}
 use Rattle.tour.specs.Trees.{Instance, same_instance, instances}
 use Rattle.tour.specs.Touring.{tour}
 use Rattle.tour.specs.Nodes.{Table, attributes_of}

@@ -1,14 +1,13 @@
 -- What each call answers, and what every table holds then. A declined call leaves all tables as they were. These
 -- relations are to be the contracts of the calls; nothing here is proved yet.
-use Rattle.std.specs.Prelude.{◌≡◌, ℕ, zero, suc, ◌+◌, ◌-◌, ◌*◌, ◌^◌, ◌<◌, ◌≤◌, Bool, true, false, not, ◌&&◌, ◌||◌, ◌⊎◌, List, [], ◌∷◌, ◌++◌, map, length, Some, None, Ok, Err, Decides, count_by, Option, Result, ◌≢◌, nat_lt, slice_index, slice_index_or, slice_set}
+use Rattle.std.specs.Prelude.{◌≡◌, ℕ, zero, suc, ◌+◌, ◌*◌, ◌<◌, ◌≤◌, Bool, true, false, not, ◌&&◌, ◌||◌, ◌⊎◌, List, [], ◌∷◌, ◌++◌, map, length, Some, None, Ok, Err, Decides, count_by, Option, Result, ◌≢◌, nat_lt, slice_index, slice_index_or, slice_set}
 use Rattle.grammar.specs.Model.{Grammar}
 use Rattle.tour.specs.Runs.{In}
-use Rattle.tour.specs.Rules.{rule}
 use Rattle.tour.specs.Trees.{Instance, Forest, Agrees, instances, places_in, same_instance}
 use Rattle.tour.specs.Touring.{tour}
 use Rattle.tour.specs.Results.{result}
 use Rattle.tour.specs.Blocks.{pieces}
-use Rattle.places.specs.Places.{at, parent_at, arity, attributes, table, owed_at, value_at, marks_in}
+use Rattle.places.specs.Places.{at, parent_at, arity, attributes, table, owed_at, value_at}
 use Rattle.places.specs.Shape.{InShape, InTree}
 use Rattle.places.specs.declared.node.Node.{Node}
 use Rattle.blocks.specs.Taken.{taken}

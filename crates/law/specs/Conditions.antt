@@ -1,5 +1,5 @@
 -- The conditions under which calls are declined, each stated once, and what it means to try them in order.
-use Rattle.std.specs.Prelude.{◌≡◌, ℕ, ◌+◌, ◌-◌, ◌*◌, ◌<◌, Bool, true, not, ◌⊎◌, List, [], ◌∷◌, length, is_some, Some, None, count_by, Option, ◌≢◌}
+use Rattle.std.specs.Prelude.{◌≡◌, ℕ, ◌+◌, ◌-◌, ◌*◌, ◌<◌, Bool, true, not, ◌⊎◌, List, [], ◌∷◌, length, is_some, Some, None, Option, ◌≢◌}
 use Rattle.std.specs.List.{slice_get}
 use Rattle.grammar.specs.Model.{Equation, Rule, Grammar}
 use Rattle.tour.specs.Rules.{rule}
@@ -10,7 +10,7 @@ use Rattle.tour.specs.Shapes.{tree_from}
 use Rattle.tour.specs.Walks.{Within}
 use Rattle.tour.specs.Blocks.{pieces}
 use Rattle.places.specs.Places.{at, used, table, owed_at}
-use Rattle.places.specs.Shape.{InShape, Held, InTree, top_from, depth_from}
+use Rattle.places.specs.Shape.{Held, top_from, depth_from}
 use Rattle.places.specs.declared.node.Node.{Node}
 use Rattle.law.specs.Handed.{Archive, Rundown, Ticket, Piece}
 use Rattle.law.specs.declared.decline.Decline.{Decline}

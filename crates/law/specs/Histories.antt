@@ -6,7 +6,7 @@ use Rattle.tour.specs.Trees.{Instance, Forest}
 use Rattle.blocks.specs.Taken.{taken}
 use Rattle.law.specs.Handed.{Archive, Rundown, Ticket, Piece}
 use Rattle.law.specs.Calls.{Plants, Drops, Discards, Steps, Settles, Reads, Question, Reading}
-use Rattle.law.specs.Book.{Entry, Book, planted, dropped, discarded, evaluated_once, evaluated_all, TreeAtPlaces}
+use Rattle.law.specs.Book.{Book, planted, dropped, discarded, evaluated_once, evaluated_all, TreeAtPlaces}
 use Rattle.law.specs.declared.decline.Decline.{Decline}
 
 -- a call with what it was handed and what it answered; plant with the places that it took, settle with what it evaluated

@@ -1,26 +1,25 @@
 -- The law over whole runs: what holds after every list of calls on an opened rundown, declined calls among them, for
 -- every accepted sheet and every archive. It speaks of the relations that the calls promise. It is not proved yet: it is
 -- to stand in the contract of a public call, in one landing with the calls.
-use Rattle.std.specs.Prelude.{◌≡◌, ℕ, ◌+◌, ◌-◌, ◌<◌, Bool, true, ◌⊎◌, ◌↔◌, List, [], ◌∷◌, ◌++◌, length, Some, None, Ok, Err, count_by, Option, Result, ◌≢◌}
+use Rattle.std.specs.Prelude.{◌≡◌, ℕ, ◌+◌, ◌-◌, ◌<◌, true, ◌⊎◌, ◌↔◌, List, length, Some, None, Ok, Err, Option, Result, ◌≢◌}
 use Rattle.grammar.specs.Model.{Grammar}
 use Rattle.sheet.specs.Meaning.{Sound}
 use Rattle.tour.specs.Runs.{In, Apart, System, args}
 use Rattle.tour.specs.Rules.{rule}
 use Rattle.tour.specs.Trees.{Instance, Forest, places_in, instances, same_instance}
 use Rattle.tour.specs.Fresh.{fresh}
-use Rattle.tour.specs.Touring.{tour}
 use Rattle.tour.specs.Results.{result, engine}
 use Rattle.tour.specs.Shapes.{tree_from}
 use Rattle.places.specs.Places.{at, table, owed_at, value_at, attributes}
 use Rattle.law.specs.Handed.{Archive, Rundown, Ticket, Piece, meaning}
-use Rattle.law.specs.Conditions.{ShortValues, FewCells, BadLength, Formless, TooDeep, TooFew, Checks, passed, check, tree_of}
+use Rattle.law.specs.Conditions.{FewCells, BadLength, Formless, TooDeep, TooFew, Checks, passed, check, tree_of}
 use Rattle.law.specs.Calls.{Opens, Question}
 use Rattle.law.specs.Calls.Question.{the_root, child, rule_there, datum_at, value_there}
 use Rattle.law.specs.Book.{Entry, Book, all_places, all_instances, opened, cells_of, depth_in, height, BookSettled, TreeAtPlaces}
 use Rattle.law.specs.Histories.{Event, History, Happens, Keeps, NoDrop, evaluated_in, counted_in}
 use Rattle.law.specs.Histories.Event.{plant, drop, discard, step, settle, read}
 use Rattle.law.specs.declared.decline.Decline.{Decline}
-use Rattle.law.specs.declared.decline.Decline.TheVariants.{Tables, Length, Form, Depth, Full, Cells, Ticket as Ticket-declined, Target, Symbol, Unsettled, Absent}
+use Rattle.law.specs.declared.decline.Decline.TheVariants.{Length, Form, Depth, Full, Cells, Ticket as Ticket-declined, Target, Symbol, Unsettled, Absent}
 
 -- the decline in an answer
 abbrev pub declined : {X : Type 0} → Result X Decline → Option Decline
