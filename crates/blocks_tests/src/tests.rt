@@ -14,7 +14,9 @@ const LEAF: Piece = Piece { rule: 2, datum: 7 };
 
 fn day(rt: HostRuntime) -> Result<Sheet, Fail> {
     let mut sheet = Sheet::new(rt.alloc())?;
-    assert!(sheet.read(DAY).is_ok());
+    if sheet.read(DAY).is_err() {
+        return Err(Fail::new("the sheet is refused"));
+    }
     Ok(sheet)
 }
 
@@ -186,7 +188,7 @@ impl Archive for Codes {
 
     ghost counts = { λ s f. None };
 
-    ghost result = { λ s f a b c. a };
+    ghost results = { λ s f a b c. a };
 
     fn count(&self, _function: u8) -> Option<u8> {
         None
