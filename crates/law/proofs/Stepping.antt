@@ -59,7 +59,7 @@ module _ (g : Grammar) {V : Type 0} (m : Archive V) where
   state_in r = state_of (m.leaf 0) r.places r.values
 
   module _ (so : Sound g) where
-    -- just the instances that have an equation are in the scope
+    -- the instances that have an equation, and no others, are those that marks speak of
     pub scope_is : (r : Rundown V) (x : Instance) → In x (live_below g (table g r.places) (used r.places) (length r.places)) ↔ Live g (table g r.places) (used r.places) x
     scope_is r x = (engine_law V).listed g (table g r.places) (used r.places) (length r.places) (λ p u. used_within r.places p u) x
 
