@@ -1,5 +1,4 @@
 // Clips that go by an identifier.
-ghost use Rattle.std.specs.Prelude.{◌≡◌};
 ghost use Rattle.archive.specs.Settings.{same_identifier, leaf_by_id, identifier_text};
 ghost use Rattle.archive.specs.Apart.{identifier_exact, identifier_apart, identifier_led};
 

@@ -1,5 +1,4 @@
 // Clips that go by a path.
-ghost use Rattle.std.specs.Prelude.{◌≡◌};
 ghost use Rattle.archive.specs.Settings.{same_path, leaf_by_path, path_text};
 ghost use Rattle.archive.specs.Apart.{path_exact, path_apart, path_led};
 

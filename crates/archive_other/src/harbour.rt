@@ -1,5 +1,4 @@
 // The tide in a harbour: high from some code on.
-ghost use Rattle.std.specs.Prelude.{◌≡◌};
 ghost use Rattle.archive_other.specs.Harbours.{tide_of, count_of, result_of, tide_text, tides_apart};
 
 use archive::{Archive, Printable, Text};

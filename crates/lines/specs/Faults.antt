@@ -1,5 +1,5 @@
 -- What is wrong with a line, each condition over the whole line, in the order of their numbers.
-use Rattle.std.specs.Prelude.{ℕ, Bool, true, false, not, ◌&&◌, ◌||◌, ltb, List, [], ◌∷◌, length, is_some, Some, None, Option, ◌==◌, nat_le, nat_lt}
+use Rattle.std.specs.Prelude.{ℕ, Bool, true, false, not, ◌&&◌, ◌||◌, List, [], ◌∷◌, length, is_some, Some, None, Option, ◌==◌, nat_le, nat_lt}
 use Rattle.std.specs.Option.{option_map}
 use Rattle.grammar.specs.Model.{Symbol, Equation}
 use Rattle.grammar.specs.Tests.{every, some, every_below}
@@ -37,7 +37,7 @@ symbol_fault symbols v xs =
 abbrev pub rule_fault : ℕ → ℕ → ℕ → List ℕ → Option Refusal
 rule_fault symbols rules l rs =
     failing (nat_lt rules 64) Range
-    (failing (every (λ x. ltb x symbols) (l ∷ rs)) Absent None)
+    (failing (every (λ x. nat_lt x symbols) (l ∷ rs)) Absent None)
 
 abbrev pub has_target : List Equation → ℕ → ℕ → Bool
 has_target es o a = some (λ e. targets e o a) es

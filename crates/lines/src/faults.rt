@@ -1,5 +1,5 @@
 // What is wrong with a line, by the words that it says and what stands before it.
-ghost use Rattle.std.specs.Prelude.{◌≡◌, ◌+◌, ◌-◌, not, ◌||◌, [], ◌∷◌, map, length, nat_lt};
+ghost use Rattle.std.specs.Prelude.{◌≡◌, not, ◌||◌, [], ◌∷◌, map, length, nat_lt};
 ghost use Rattle.grammar.specs.Listed.{listed};
 ghost use Rattle.grammar.specs.Rows.{symbol_of, equation_of};
 ghost use Rattle.grammar.specs.Scopes.{scope_of, defines, attributes_at};

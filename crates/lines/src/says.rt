@@ -5,7 +5,7 @@ ghost use Rattle.words.specs.Left.{left};
 ghost use Rattle.lines.specs.Lines.{key_in, symbol_in, rule_in, set_in};
 ghost use Rattle.lines.specs.Read.{symbol_read, rule_read, set_read};
 
-use grammar::{Argument, Few, Refusal, Spelled, SymbolRow};
+use grammar::{Argument, Few, Refusal, SymbolRow};
 use words::Words;
 
 // The first word of a line says what kind of line it is.

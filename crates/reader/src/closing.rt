@@ -1,5 +1,5 @@
 // The plan line, which closes a rule.
-ghost use Rattle.std.specs.Prelude.{◌≡◌, ◌-◌, ◌<◌, ◌≤◌, map, vec_len, vec_capacity};
+ghost use Rattle.std.specs.Prelude.{◌≡◌, ◌≤◌, map, vec_len, vec_capacity};
 ghost use Rattle.words.specs.Left.{left};
 ghost use Rattle.grammar.specs.Forms.{all_of, instruction_word};
 ghost use Rattle.grammar.specs.Rows.{equation_of};

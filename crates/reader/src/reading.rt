@@ -1,5 +1,5 @@
 // A text is read line by line.
-ghost use Rattle.std.specs.Prelude.{◌≡◌, ◌+◌, ◌-◌, ◌<◌, ◌≤◌, length};
+ghost use Rattle.std.specs.Prelude.{◌≡◌, ◌≤◌, length};
 ghost use Rattle.words.specs.Cuts.{parts_at};
 ghost use Rattle.words.specs.Left.{left};
 ghost use Rattle.words.specs.Tokens.{token_of};

@@ -1,14 +1,10 @@
 // One line after another goes into the tables, or is refused.
-ghost use Rattle.std.specs.Prelude.{◌≡◌, ◌-◌, ◌<◌, not, length, is_some, IfOk};
+ghost use Rattle.std.specs.Prelude.{◌≡◌, not, length, is_some, IfOk};
 ghost use Rattle.words.specs.Left.{left};
 ghost use Rattle.lines.specs.Lines.{symbol_in, rule_in, set_in};
-ghost use Rattle.lines.specs.Faults.{starts, symbol_fault, rule_fault};
 ghost use Rattle.reader.specs.Steps.{nothing, is_empty, allowed, fault_of};
 ghost use Rattle.lines.specs.LineKinds.Line.{set_line};
 ghost use Rattle.lines.specs.Read.{set_of};
-ghost use Rattle.grammar.specs.Listed.{listed};
-ghost use Rattle.grammar.specs.Rows.{symbol_of};
-ghost use Rattle.grammar.specs.Tests.{every};
 ghost use Rattle.reader.specs.Judgement.{on_line};
 ghost use Rattle.reader.specs.Views.{state_of, Stepped};
 

@@ -1,7 +1,7 @@
 // The words of a text: parts that borrow its bytes, each with its line.
 #![tactic(auto)]
 
-ghost use Rattle.std.specs.Prelude.{◌≡◌, ◌+◌, ◌-◌, ◌<◌, [], ◌∷◌, length, IfNone, Some, None, MatchOption};
+ghost use Rattle.std.specs.Prelude.{◌≡◌, ◌<◌, [], ◌∷◌, length, IfNone, Some, None, MatchOption};
 ghost use Rattle.words.specs.Cuts.{cut_at};
 ghost use Rattle.words.specs.Numbers.{both, number_in, pair_in};
 ghost use Rattle.words.specs.Tokens.{lex, token_of, number_of, pair_word, line_in};
