@@ -3,7 +3,7 @@ ghost use Rattle.std.specs.Prelude.{◌≡◌};
 ghost use Rattle.grammar.specs.Refusals.{rule_number, refusal_number, layer_of};
 
 // The rules of a plan, in the order in which they are looked at.
-#[derive(Clone, Copy)]
+#[derive(Clone, Copy, Debug, PartialEq, Eq)]
 pub enum PlanRule {
     ReturnsInOrder,
     OneEvaluation,
@@ -14,7 +14,7 @@ pub enum PlanRule {
 }
 
 // What is wrong with a line, or with the text as a whole.
-#[derive(Clone, Copy)]
+#[derive(Clone, Copy, Debug, PartialEq, Eq)]
 pub enum Refusal {
     Length,
     LineForm,
@@ -27,7 +27,7 @@ pub enum Refusal {
 }
 
 // The part of the rules that a refusal belongs to.
-#[derive(Clone, Copy)]
+#[derive(Clone, Copy, Debug, PartialEq, Eq)]
 pub enum Layer {
     OfText,
     OfGrammar,

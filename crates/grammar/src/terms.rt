@@ -1,21 +1,21 @@
 // The terms of a grammar that are plain values.
 
 // Inherited attributes come to a node from above, synthesized ones from below.
-#[derive(Clone, Copy)]
+#[derive(Clone, Copy, Debug, PartialEq, Eq)]
 pub enum Flow {
     Inherited,
     Synthesized,
 }
 
 // An attribute of a symbol: it is known from that visit on.
-#[derive(Clone, Copy)]
+#[derive(Clone, Copy, Debug, PartialEq, Eq)]
 pub struct Attribute {
     pub flow: Flow,
     pub visit: u16,
 }
 
 // An argument of an equation: the node's own datum, or an attribute of an occurrence.
-#[derive(Clone, Copy)]
+#[derive(Clone, Copy, Debug, PartialEq, Eq)]
 pub enum Argument {
     Datum,
     Of(u16, u16),
@@ -23,7 +23,7 @@ pub enum Argument {
 
 // A step of a plan: evaluate an attribute of an occurrence, go through a visit of a right occurrence, or return from
 // a visit.
-#[derive(Clone, Copy)]
+#[derive(Clone, Copy, Debug, PartialEq, Eq)]
 pub enum Instruction {
     Evaluate(u16, u16),
     Visit(u16, u16),

@@ -1,5 +1,5 @@
 // How much a sheet holds.
-#[derive(Clone, Copy)]
+#[derive(Clone, Copy, Debug, PartialEq, Eq)]
 pub struct Counts {
     pub symbols: usize,
     pub rules: usize,
