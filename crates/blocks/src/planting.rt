@@ -36,8 +36,7 @@ fn next_to(up: Option<Parent>) -> Option<Parent>
     requires { position_in up < 8 }
     ensures { result ≡ next_to up }
 {
-    let Parent { place, position } = up?;
-    Some(Parent {
+    up.map(|Parent { place, position }| Parent {
         place,
         position: position + 1,
     })
@@ -124,8 +123,6 @@ pub fn write_block(sheet: &Sheet, places: &mut [Place], block: &[Piece]) -> u16
     requires few { length places.old ≤ 65536 }
     ensures { Written (grammar_of sheet.now) places.old block.now result places.new }
 {
-    match plant_row(sheet, places, None, 1, block, 0) {
-        Some(planted) => planted.roots[0],
-        None => unreachable(),
-    }
+    let planted = plant_row(sheet, places, None, 1, block, 0).unwrap();
+    planted.roots[0]
 }
