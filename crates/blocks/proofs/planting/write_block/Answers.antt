@@ -6,12 +6,12 @@ use Rattle.blocks.proofs.Fronts.{some_case}
 use Rattle.blocks.proofs.Writing.{written, some_planting, narrow, judged_sound}
 use Rattle.blocks.proofs.planting.write_block.Goals as goal
 
-pub unwrap-planted-requires : goal.unwrap-planted-requires
-unwrap-planted-requires c = some_case _ _ c.plant_row.result c.plant_row.ensures (some_planting (grammar_of c.args.sheet.now) c.args.places.now c.args.block.now c.requires.judged c.requires.room)
+pub unwrap-requires : goal.unwrap-requires
+unwrap-requires c = some_case _ _ c.plant_row.result c.plant_row.ensures.planted (some_planting (grammar_of c.args.sheet.now) c.args.places.now c.args.block.now c.requires.judged c.requires.room)
 
 pub returns : goal.returns
 returns c =
     let g = grammar_of c.args.sheet.now in
-    let planted = c.unwrap-planted.result in
+    let planter = c.plant_row.new.self in
     written g c.args.places.now c.args.block.now c.requires.judged c.requires.room (narrow g (judged_sound c.args.sheet.now (own_symbol g c.args.block.now) [] c.args.block.now c.requires.judged))
-    planted.roots planted.rest.now planted.next c.plant_row.new.places (MatchOption-at_some _ _ planted c.unwrap-planted.ensures c.plant_row.ensures)
+    c.unwrap.result planter.pieces.now planter.next c.plant_row.new.places (MatchOption-at_some _ _ c.unwrap.result c.unwrap.ensures c.plant_row.ensures.planted)
