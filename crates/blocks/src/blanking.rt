@@ -41,6 +41,8 @@ pub fn blank_values<A: Archive>(
     ensures blank { (f : Forest) → BlockTree (grammar_of sheet.now) places.now block.now f → Blanked (grammar_of sheet.now) (A.leafs archive.now 0) f values.old values.new }
 {
     let blank = archive.leaf(0);
+    // Zipped with a filtered chain of places the loop would need no number, but the check can't type that chain's iterator
+    // in a generic function.
     let mut next = 0;
     for piece in block {
         let Some(kind) = kind_of(sheet, piece.rule) else {
