@@ -1,7 +1,8 @@
 -- The values of a block are set piece by piece.
 use Rattle.std.proofs.Common.{◌≡◌, ℕ, zero, suc, ◌+◌, ◌*◌, ◌<◌, ◌≤◌, true, ◌&&◌, eqb, ltb, List, [], ◌∷◌, ◌++◌, length, get_or, take, drop, set, Option, sym, refl, ap, ◌∙◌, ap₂, add-one, arith}
 use mathlib.Core.Bool.{false≢true}
-use Rattle.std.proofs.lemmas.List.{drop_more, drop_all}
+use Rattle.std.proofs.lemmas.List.{drop_more, drop_all, length-take-le, set-append_left, set-append_right}
+use borrow.Rule.Slice.PartMut.{put_mid, post_of}
 use Rattle.std.proofs.lemmas.Bool.{and_parts, ltb-true}
 use Rattle.grammar.specs.Model.{Grammar}
 use Rattle.tour.specs.Rules.{rule}
@@ -27,8 +28,16 @@ reads_known g (x ∷ xs) (b ∷ bs) i d e l =
     by (suc j) l here later = later j (omega arith)
 
 module _ {V : Type 0} (g : Grammar) (v : V) where
-  pub row_more : (p n : ℕ) (vs ws : List V) → ws ≡ blank_row v p n vs → set ws (16 * p + n) v ≡ blank_row v p (n + 1) vs
-  row_more p n vs ws e = ap (λ z. set z (16 * p + n) v) e ∙ sym (ap (λ m. blank_row v p m vs) (add-one n))
+  -- one more value of the part of the table that belongs to a place
+  pub row_more : (p k n : ℕ) (vs part : List V) → 16 * p ≤ length vs → n < length part → put_mid (16 * p) k vs part ≡ blank_row v p n vs → put_mid (16 * p) k vs (set part n v) ≡ blank_row v p (n + 1) vs
+  row_more p k n vs part l m e =
+      let a = 16 * p in
+      let post = post_of a k vs in
+      ap (λ z. take a vs ++ z) (sym (set-append_left part post n v m))
+      ∙ ap (λ j. take a vs ++ set (part ++ post) j v) (omega arith)
+      ∙ sym (set-append_right (take a vs) (part ++ post) a (a + n) v (length-take-le a vs l) (omega arith))
+      ∙ ap (λ z. set z (a + n) v) e
+      ∙ ap (λ m. blank_row v p m vs) (sym (add-one n))
 
   pub blanked_nowhere : (bs : List Piece) (qs : List ℕ) (vs : List V) → qs ≡ [] → blanked g v bs qs vs ≡ vs
   blanked_nowhere bs (q ∷ qs) vs e = absurd (omega (arith, ap length e))

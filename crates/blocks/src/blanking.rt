@@ -20,8 +20,9 @@ fn blank_row<V: Copy>(values: &mut [V], place: usize, count: usize, blank: V)
     requires { 16 * place + count ≤ length values.old }
     ensures { values.new ≡ blank_row blank place count values.old }
 {
-    for attribute in 0..count {
-        values[16 * place + attribute] = blank;
+    let first = 16 * place;
+    for value in &mut values[first..first + count] {
+        *value = blank;
     }
 }
 

@@ -45,14 +45,11 @@ fn measure_row<'a>(
 fn first_symbol(sheet: &Sheet, named: Option<u16>, block: &[Piece]) -> Option<u16>
     ensures { MatchOption result (tree_fault (grammar_of sheet.now) (symbol_or (grammar_of sheet.now) named block.now) block.now ≡ Some Form) (λ x. x ≡ symbol_or (grammar_of sheet.now) named block.now) }
 {
-    if named.is_some() {
-        return named;
+    match (named, block) {
+        (Some(symbol), _) => Some(symbol),
+        (None, [first, ..]) => kind_of(sheet, first.rule).map(|kind| kind.left),
+        (None, []) => None,
     }
-    let [first, ..] = block else {
-        return None;
-    };
-    let kind = kind_of(sheet, first.rule)?;
-    Some(kind.left)
 }
 
 // Whether pieces are those of just one tree of a symbol, and that not too deep.
@@ -60,10 +57,7 @@ fn judge_tree(sheet: &Sheet, symbol: u16, pieces: &[Piece]) -> Result<(), BlockF
     requires { length pieces.now < 2 ^ 31 }
     ensures { result_err result ≡ tree_fault (grammar_of sheet.now) symbol pieces.now }
 {
-    let symbols = [symbol];
-    let Some((deepest, rest)) = measure_row(sheet, &symbols, 1, pieces) else {
-        return Err(BlockFault::Form);
-    };
+    let (deepest, rest) = measure_row(sheet, &[symbol], 1, pieces).ok_or(BlockFault::Form)?;
     if !rest.is_empty() {
         return Err(BlockFault::Form);
     }
@@ -81,8 +75,6 @@ pub fn judge_block(sheet: &Sheet, first: Option<u16>, block: &[Piece]) -> Result
     if block.is_empty() || block.len() > MOST_PIECES {
         return Err(BlockFault::Length);
     }
-    match first_symbol(sheet, first, block) {
-        Some(symbol) => judge_tree(sheet, symbol, block),
-        None => Err(BlockFault::Form),
-    }
+    let symbol = first_symbol(sheet, first, block).ok_or(BlockFault::Form)?;
+    judge_tree(sheet, symbol, block)
 }

@@ -14,15 +14,6 @@ use super::piece::Piece;
 use places::{Node, Parent, Place};
 use sheet::Sheet;
 
-// What a row of trees leaves: the places of its roots, the pieces behind it, and the number from which on places are
-// still free.
-#[derive(Clone, Copy)]
-struct Planted<'a> {
-    roots: [u16; 4],
-    rest: &'a [Piece],
-    next: usize,
-}
-
 // The marks under which that many attributes are owed.
 fn all_owed(attributes: usize) -> u16
     requires { attributes ≤ 16 }
@@ -36,8 +27,7 @@ fn next_to(up: Option<Parent>) -> Option<Parent>
     requires { position_in up < 8 }
     ensures { result ≡ next_to up }
 {
-    let Parent { place, position } = up?;
-    Some(Parent {
+    up.map(|Parent { place, position }| Parent {
         place,
         position: position + 1,
     })
@@ -68,53 +58,42 @@ fn new_node(piece: Piece, up: Option<Parent>, children: [u16; 4], attributes: us
     }
 }
 
-// Writes a row of that many trees, the first under that parent, into free places from a number on.
-fn plant_row<'a>(
-    sheet: &Sheet,
-    places: &mut [Place],
-    up: Option<Parent>,
-    count: usize,
-    pieces: &'a [Piece],
-    from: usize,
-) -> Option<Planted<'a>>
-    requires { (length places.old ≤ 65536) × (position_in up + count ≤ 5) }
-    ensures { MatchOption result (NoPlanting (grammar_of sheet.now) count pieces.now from places.old) (λ m. Planting (grammar_of sheet.now) up count pieces.now from places.old m.roots m.rest.now m.next places.new) }
-{
-    if count == 0 {
-        return Some(Planted {
-            roots: [0; 4],
-            rest: pieces,
-            next: from,
-        });
+// What is still to be planted: the pieces, and the number from which on places are still free.
+#[derive(Clone, Copy)]
+struct Planter<'b, 's> {
+    sheet: &'s Sheet,
+    pieces: &'b [Piece],
+    next: usize,
+}
+
+impl<'b, 's> Planter<'b, 's> {
+    // Plants a row of that many trees, the first under that parent. The answer has the places of their roots.
+    fn plant_row(
+        &mut self,
+        places: &mut [Place],
+        up: Option<Parent>,
+        count: usize,
+    ) -> Option<[u16; 4]>
+        requires { (length places.old ≤ 65536) × (position_in up + count ≤ 5) }
+        ensures sheet { self.new.sheet.now ≡ self.old.sheet.now }
+        ensures pieces { length self.new.pieces.now ≤ length self.old.pieces.now }
+        ensures planted { MatchOption result (NoPlanting (grammar_of self.old.sheet.now) count self.old.pieces.now self.old.next places.old) (λ roots. Planting (grammar_of self.old.sheet.now) up count self.old.pieces.now self.old.next places.old roots self.new.pieces.now self.new.next places.new) }
+    {
+        if count == 0 {
+            return Some([0; 4]);
+        }
+        let [first, rest @ ..] = self.pieces else {
+            return None;
+        };
+        let kind = kind_of(self.sheet, first.rule)?;
+        let place = first_free(places, self.next)?;
+        self.pieces = rest;
+        self.next = place + 1;
+        let children = self.plant_row(places, first_below(place), kind.right.len())?;
+        places[place] = Some(new_node(*first, up, children, kind.attributes));
+        let [second, third, fourth, _] = self.plant_row(places, next_to(up), count - 1)?;
+        Some([place as u16, second, third, fourth])
     }
-    let [first, rest @ ..] = pieces else {
-        return None;
-    };
-    let kind = kind_of(sheet, first.rule)?;
-    let place = first_free(places, from)?;
-    let below = plant_row(
-        sheet,
-        places,
-        first_below(place),
-        kind.right.len(),
-        rest,
-        place + 1,
-    )?;
-    places[place] = Some(new_node(*first, up, below.roots, kind.attributes));
-    let beside = plant_row(
-        sheet,
-        places,
-        next_to(up),
-        count - 1,
-        below.rest,
-        below.next,
-    )?;
-    let [a, b, c, _] = beside.roots;
-    Some(Planted {
-        roots: [place as u16, a, b, c],
-        rest: beside.rest,
-        next: beside.next,
-    })
 }
 
 // Writes a block, judged before, into the first free places. The answer is the place of its root.
@@ -124,8 +103,11 @@ pub fn write_block(sheet: &Sheet, places: &mut [Place], block: &[Piece]) -> u16
     requires few { length places.old ≤ 65536 }
     ensures { Written (grammar_of sheet.now) places.old block.now result places.new }
 {
-    match plant_row(sheet, places, None, 1, block, 0) {
-        Some(planted) => planted.roots[0],
-        None => unreachable(),
-    }
+    let mut planter = Planter {
+        sheet,
+        pieces: block,
+        next: 0,
+    };
+    let [root, ..] = planter.plant_row(places, None, 1).unwrap();
+    root
 }

@@ -1,15 +1,17 @@
-use Rattle.std.proofs.Common.{◌∙◌}
-use Rattle.blocks.proofs.Free.{free_step, free_end}
+use Rattle.std.proofs.Common.{ap, sym, ◌∙◌, position}
+use Rattle.std.proofs.lemmas.List.{take_rest}
+use Rattle.blocks.proofs.Free.{is_free, free_at, free_nowhere}
+use Rattle.blocks.proofs.Fronts.{none_case}
 use Rattle.blocks.proofs.finding.first_free.Goals as goal
 
-pub returns-then-is_none : goal.returns-then-is_none
-returns-then-is_none c = record {
-  found = c.loop-i.invariant ∙ (free_step c.args.places.now c.loop-i.i c.loop-i-test.true).0 c.if-is_none.ensures;
-  there = (c.loop-i.auto.i, c.loop-i-test.true);
-}
+pub returns-in_err-ahead-clause-found : goal.returns-in_err-ahead-clause-found
+returns-in_err-ahead-clause-found c =
+    let ps = c.args.places.now in
+    let rest = c.in_ok-get.ensures.lookup.0.2 ∙ take_rest ps c.args.from in
+    none_case _ _ _ c.from_residual-in_err-ahead.ensures (free_nowhere c.args.from ps (ap (position is_free) (sym rest) ∙ sym c.in_err-ahead.ensures))
 
-pub loop-i-preserved : goal.loop-i-preserved
-loop-i-preserved c = c.loop-i.invariant ∙ (free_step c.args.places.now c.loop-i.i c.loop-i-test.true).1 c.if-is_none.ensures
-
-pub returns : goal.returns
-returns c = record { found = c.loop-i.invariant ∙ free_end c.args.places.now c.loop-i.i c.loop-i-test.false; there = tt }
+pub returns-clause-found : goal.returns-clause-found
+returns-clause-found c =
+    let ps = c.args.places.now in
+    let rest = c.in_ok-get.ensures.lookup.0.2 ∙ take_rest ps c.args.from in
+    free_at c.args.from ps c.in_ok-ahead.ahead (ap (position is_free) (sym rest) ∙ sym c.in_ok-ahead.ensures)
