@@ -5,3 +5,4 @@ pub mod Model
 pub mod Forms
 pub mod Rows
 pub mod Scopes
+pub mod Sentences

@@ -6,3 +6,5 @@ pub mod Growing
 pub mod Tables
 pub mod Trees
 pub mod Owing
+pub mod Knowing
+pub mod Counting

@@ -1,5 +1,5 @@
 -- What is free and what is owed, over the whole table.
-use Rattle.std.specs.Prelude.{◌≡◌, ℕ, ◌<◌, Bool, true, false, not, List, is_some, sum_by, count_by, Option}
+use Rattle.std.specs.Prelude.{◌≡◌, ℕ, suc, ◌<◌, Bool, true, false, not, List, [], ◌∷◌, is_some, sum_by, count_by, Some, None, Option}
 use Rattle.places.specs.Marks.{owed_below}
 use Rattle.places.specs.Places.{marks_in, owed_at}
 use Rattle.places.specs.Shape.{InTree}
@@ -11,6 +11,16 @@ is_free o = not (is_some o)
 -- how many places are free
 abbrev pub free_in : List (Option Node) → ℕ
 free_in ps = count_by is_free ps
+
+-- the free places of a table whose first place has number i
+abbrev pub free_from : ℕ → List (Option Node) → List ℕ
+free_from i [] = []
+free_from i (None ∷ ps) = i ∷ free_from (suc i) ps
+free_from i (Some n ∷ ps) = free_from (suc i) ps
+
+-- the free places of a table, in order
+abbrev pub free : List (Option Node) → List ℕ
+free ps = free_from 0 ps
 
 -- how many attributes are owed at a place
 abbrev pub owed_in : Option Node → ℕ

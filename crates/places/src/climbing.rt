@@ -1,71 +1,76 @@
 // Climbing from a place to the parents above it.
-ghost use Rattle.std.specs.Prelude.{◌≡◌, Decides};
+ghost use Rattle.std.specs.Prelude.{◌≡◌, is_ok, Decides, MatchResult};
 ghost use Rattle.places.specs.Climbs.{Climbed};
 ghost use Rattle.places.specs.Places.{at, parent_at};
-ghost use Rattle.places.specs.Shape.{InTree, Held};
+ghost use Rattle.places.specs.Shape.{climbs, InTree, Held};
 
 use super::node::{Node, Parent, Place};
 
-// Where climbing ended, or broke off after 64 places, and how many places it passed.
+// Where climbing ends, or breaks off after 64 places, and how many places it passes.
 #[derive(Clone, Copy)]
 pub struct Summit {
-    pub top: u16,
+    pub top: usize,
     pub depth: u16,
-    pub ended: bool,
 }
 
 // The node at a place; past the end of the table there is none.
 pub fn node_at(places: &[Place], p: u16) -> Option<Node>
     ensures { result ≡ at places.now p }
 {
-    let p = usize::from(p);
-    if p < places.len() { places[p] } else { None }
+    *places.get(usize::from(p))?
 }
 
-fn parent_at(places: &[Place], p: u16) -> Option<Parent>
+// Where the node at a place hangs, if there is one and it does.
+pub fn parent_at(places: &[Place], p: usize) -> Option<Parent>
     ensures { result ≡ parent_at places.now p }
 {
-    match node_at(places, p) {
-        Some(node) => node.parent,
-        None => None,
-    }
+    (*places.get(p)?)?.parent
 }
 
-// Climbs at most 64 places.
-pub fn climb(places: &[Place], p: u16) -> Summit
-    ensures { Climbed places.now p result }
+// Climbs at most 64 places; an error where it broke off.
+fn ascend(places: &[Place], p: usize) -> Result<Summit, Summit>
+    ensures summit { MatchResult result (λ s. Climbed places.now p s) (λ s. Climbed places.now p s) }
+    ensures ended { is_ok result ≡ climbs places.now 64 p }
 {
     let mut top = p;
     for above in 0..64 {
-        match parent_at(places, top) {
-            Some(parent) => top = parent.place,
-            None => return Summit {
+        let Some(parent) = parent_at(places, top) else {
+            return Ok(Summit {
                 top,
                 depth: above + 1,
-                ended: true,
-            },
-        }
+            });
+        };
+        top = usize::from(parent.place);
     }
-    Summit {
-        top,
-        depth: 64,
-        ended: false,
+    Err(Summit { top, depth: 64 })
+}
+
+// Climbs at most 64 places.
+pub fn climb(places: &[Place], p: usize) -> Summit
+    ensures { Climbed places.now p result }
+{
+    match ascend(places, p) {
+        Ok(summit) | Err(summit) => summit,
     }
+}
+
+// Whether climbing ends within 64 places.
+pub fn ends(places: &[Place], p: usize) -> bool
+    ensures { result ≡ climbs places.now 64 p }
+{
+    ascend(places, p).is_ok()
 }
 
 // Whether a place is used and climbing from it ends at the root.
 pub fn is_in_tree(places: &[Place], root: u16, p: u16) -> bool
     ensures { Decides result (InTree places.now root p) }
 {
-    node_at(places, p).is_some() && climb(places, p).top == root
+    node_at(places, p).is_some() && climb(places, usize::from(p)).top == usize::from(root)
 }
 
 // Whether a place is the root of a held block.
 pub fn is_held(places: &[Place], root: u16, p: u16) -> bool
     ensures { Decides result (Held places.now root p) }
 {
-    match node_at(places, p) {
-        Some(node) => node.parent.is_none() && p != root,
-        None => false,
-    }
+    node_at(places, p).is_some_and(|node| node.parent.is_none() && p != root)
 }

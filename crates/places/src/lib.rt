@@ -3,6 +3,7 @@
 #![tactic(auto)]
 
 mod climbing;
+mod kinds;
 mod laws;
 mod marks;
 mod node;
@@ -10,7 +11,8 @@ mod pushdown;
 mod shape;
 mod totals;
 
-pub use climbing::{Summit, climb, is_held, is_in_tree, node_at};
+pub use climbing::{Summit, climb, ends, is_held, is_in_tree, node_at, parent_at};
+pub use kinds::{Kind, arity_of, kind_of, left_of};
 pub use laws::shape_shows_trees;
 pub use marks::{count_owed, first_owed, is_owed, with_owed, without_owed};
 pub use node::{Node, Parent, Place};

@@ -1,4 +1,6 @@
 // What places hold.
+ghost use Rattle.std.specs.Prelude.{◌≡◌, slice_index};
+ghost use Rattle.tour.specs.Trees.{at_of};
 
 // Where a node hangs: the place of its parent, and which of the parent's children it is, counted from 1.
 #[derive(Clone, Copy, Debug, PartialEq, Eq)]
@@ -20,3 +22,22 @@ pub struct Node {
 
 // A free place holds nothing.
 pub type Place = Option<Node>;
+
+impl Node {
+    // The place of child number k, counted from 0; 0 past the four.
+    pub fn child(&self, k: usize) -> u16
+        ensures { result ≡ slice_index self.now.children k }
+    {
+        self.children.get(k).copied().unwrap_or(0)
+    }
+
+    // Where an occurrence of the rule stands: occurrence 0 at the node's own place, the others at its children.
+    pub fn occurrence_place(&self, place: u16, occurrence: u16) -> u16
+        ensures { result ≡ at_of place self.now.children occurrence }
+    {
+        match occurrence {
+            0 => place,
+            _ => self.child(usize::from(occurrence) - 1),
+        }
+    }
+}

@@ -7,37 +7,10 @@ ghost use Rattle.places.specs.Places.{at, arity};
 ghost use Rattle.places.specs.declared.node.Node.{Node};
 ghost use Rattle.places.specs.Shape.{ChildThere, ParentThere, HangsBelow, RootThere, SoundNode, SoundPlaces, InShape};
 
-use super::climbing::{climb, node_at};
+use super::climbing::{ends, node_at};
+use super::kinds::{arity_of, kind_of, left_of};
 use super::node::{Node, Parent, Place};
-use grammar::Production;
-use sheet::{Group, Sheet};
-
-// The left symbol of a rule; 0 where there is no such rule.
-fn left_of(sheet: &Sheet, number: u16) -> u16
-    ensures { result ≡ (rule (grammar_of sheet.now) number).left }
-{
-    match sheet.rule(usize::from(number)) {
-        Some(Group { production, .. }) => production.left,
-        None => 0,
-    }
-}
-
-// How many right symbols a rule has; 0 where there is no such rule.
-fn arity_of(sheet: &Sheet, number: u16) -> usize
-    ensures { result ≡ arity (grammar_of sheet.now) number }
-{
-    match sheet.rule(usize::from(number)) {
-        Some(Group { production, .. }) => production.right.len(),
-        None => 0,
-    }
-}
-
-// The place of a child; 0 past the four.
-fn child_of(node: Node, k: usize) -> u16
-    ensures { result ≡ slice_index node.children k }
-{
-    if k < 4 { node.children[k] } else { 0 }
-}
+use sheet::Sheet;
 
 // Whether a child hangs below that place as child number k, counted from 0, and has that symbol.
 fn child_is_there(sheet: &Sheet, p: u16, k: usize, symbol: u16, child: Place) -> bool
@@ -62,7 +35,7 @@ fn points_at(sheet: &Sheet, p: u16, position: u16, parent: Place) -> bool
         return false;
     };
     let position = usize::from(position);
-    1 <= position && position <= arity_of(sheet, node.rule) && child_of(node, position - 1) == p
+    1 <= position && position <= arity_of(sheet, node.rule) && node.child(position - 1) == p
 }
 
 // Whether the parent, if there is one, has that place as its child.
@@ -75,11 +48,10 @@ fn parent_is_there(sheet: &Sheet, places: &[Place], p: u16, parent: Option<Paren
     }
 }
 
-// Whether marks name attributes that the left symbol has.
-fn marks_fit(production: Production, marks: u16) -> bool
-    ensures { Decides result (marks < 2 ^ attributes_at (scope_of production.entry) 0) }
+// Whether marks name the first so many attributes only.
+fn marks_fit(attributes: usize, marks: u16) -> bool
+    ensures { Decides result (marks < 2 ^ attributes) }
 {
-    let attributes = production.attributes(0).len();
     attributes >= 16 || marks >> attributes == 0
 }
 
@@ -98,7 +70,7 @@ fn children_are_there(sheet: &Sheet, places: &[Place], p: u16, node: Node, right
     ensures { Decides result ((k : ℕ) → k < length right.now → ChildThere (grammar_of sheet.now) p k (slice_index right.now k) (at places.now (slice_index node.children k))) }
 {
     for (k, symbol) in right.iter().enumerate() {
-        let child = node_at(places, child_of(node, k));
+        let child = node_at(places, node.child(k));
         if !child_is_there(sheet, p, k, *symbol, child) {
             return false;
         }
@@ -110,16 +82,12 @@ fn children_are_there(sheet: &Sheet, places: &[Place], p: u16, node: Node, right
 fn node_is_sound(sheet: &Sheet, places: &[Place], p: u16, node: Node) -> bool
     ensures { Decides result (SoundNode (grammar_of sheet.now) places.now p node) }
 {
-    let Some(Group { production, .. }) = sheet.rule(usize::from(node.rule)) else {
-        return false;
-    };
-    if !children_are_there(sheet, places, p, node, production.right) {
-        return false;
-    }
-    if !parent_is_there(sheet, places, p, node.parent) {
-        return false;
-    }
-    climb(places, p).ended && marks_fit(production, node.marks)
+    kind_of(sheet, usize::from(node.rule)).is_some_and(|kind| {
+        children_are_there(sheet, places, p, node, kind.right)
+            && parent_is_there(sheet, places, p, node.parent)
+            && ends(places, usize::from(p))
+            && marks_fit(kind.attributes, node.marks)
+    })
 }
 
 // A free place is sound, and a used one where its node is.

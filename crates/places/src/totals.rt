@@ -1,7 +1,7 @@
 // What is free and what is owed, over the whole table.
 ghost use Rattle.std.specs.Prelude.{◌≡◌, ◌≤◌, length, MatchOption};
 ghost use Rattle.places.specs.Places.{at, marks_in};
-ghost use Rattle.places.specs.Totals.{free_in, owed_in, owed_total, FirstOfPlace, FirstOfTree, NoneOwed, NoneOwedAt};
+ghost use Rattle.places.specs.Totals.{free, free_in, owed_in, owed_total, FirstOfPlace, FirstOfTree, NoneOwed, NoneOwedAt};
 
 use super::climbing::{is_in_tree, node_at};
 use super::marks::{count_owed, first_owed};
@@ -9,15 +9,10 @@ use super::node::Place;
 
 // How many places are free.
 pub fn free_places(places: &[Place]) -> usize
-    ensures { result ≡ free_in places.now }
+    ensures count { result ≡ free_in places.now }
+    ensures listed { result ≡ length (free places.now) }
 {
-    let mut free = 0;
-    for place in places {
-        if place.is_none() {
-            free += 1;
-        }
-    }
-    free
+    places.iter().filter(|place| place.is_none()).count()
 }
 
 fn owed_in(place: Place) -> usize

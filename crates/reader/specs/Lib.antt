@@ -3,3 +3,4 @@ pub mod PlanTable
 pub mod Steps
 pub mod Judgement
 pub mod Views
+pub mod FaultText

@@ -4,3 +4,4 @@ pub mod Same
 pub mod Kept
 pub mod Answers
 pub mod Worked
+pub mod CountsText

@@ -3,16 +3,12 @@ ghost use Rattle.sheet.specs.Meaning.{Acceptance, PlanRefusals};
 ghost use Rattle.sheet.specs.Worked.{WorkedSheets};
 
 // Just the texts that are sheets are accepted; a refused plan breaks the rule that is named, and none before it.
-pub fn acceptance_stands() -> u8
+pub fn acceptance_stands()
     ensures accepts { Acceptance }
     ensures refuses { PlanRefusals }
-{
-    0
-}
+{}
 
 // The worked sheet and its two broken variants.
-pub fn worked_sheets_stand() -> u8
+pub fn worked_sheets_stand()
     ensures { WorkedSheets }
-{
-    0
-}
+{}
