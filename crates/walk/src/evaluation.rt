@@ -1,7 +1,6 @@
 // The evaluation of an instance.
 ghost use Rattle.std.specs.Prelude.{◌≡◌, ◌+◌, ◌*◌, ◌<◌, ◌≤◌, true, map, length, MatchBool, MatchOption, ◌≢◌, slice_index_or, slice_set};
 ghost use Rattle.std.specs.List.{AllByRecursion};
-ghost use Rattle.grammar.specs.Listed.{listed};
 ghost use Rattle.grammar.specs.Model.{Grammar};
 ghost use Rattle.grammar.specs.Rows.{equation_of};
 ghost use Rattle.places.specs.Places.{used, table, value_at};
@@ -93,8 +92,8 @@ fn argument_value<A: Archive>(
     number: usize,
 ) -> A::Value
     requires there { used places.now place ≡ true }
-    requires few { AllByRecursion (NamedIn 4) (listed equation.now.arguments) }
-    ensures { (g : Grammar) → AllByRecursion (NamedIn (length (table g places.now place).kids)) (listed equation.now.arguments) → result ≡ argument_by (meaning_of (A.leafs archive.now) (A.results archive.now)) (table g places.now) place (value_at (A.leafs archive.now 0) values.now) (listed equation.now.arguments) number }
+    requires few { AllByRecursion (NamedIn 4) equation.now.arguments.items }
+    ensures { (g : Grammar) → AllByRecursion (NamedIn (length (table g places.now place).kids)) equation.now.arguments.items → result ≡ argument_by (meaning_of (A.leafs archive.now) (A.results archive.now)) (table g places.now) place (value_at (A.leafs archive.now 0) values.now) equation.now.arguments.items number }
 {
     let argument = equation.arguments.as_slice().get(number).copied();
     given(archive, places, values, place, argument)
@@ -109,8 +108,8 @@ fn result_of<A: Archive>(
     equation: &EquationRow,
 ) -> A::Value
     requires there { used places.now place ≡ true }
-    requires few { AllByRecursion (NamedIn 4) (listed equation.now.arguments) }
-    ensures { (g : Grammar) → AllByRecursion (NamedIn (length (table g places.now place).kids)) (listed equation.now.arguments) → result ≡ result_by (meaning_of (A.leafs archive.now) (A.results archive.now)) (table g places.now) place (value_at (A.leafs archive.now 0) values.now) (equation_of equation.now) }
+    requires few { AllByRecursion (NamedIn 4) equation.now.arguments.items }
+    ensures { (g : Grammar) → AllByRecursion (NamedIn (length (table g places.now place).kids)) equation.now.arguments.items → result ≡ result_by (meaning_of (A.leafs archive.now) (A.results archive.now)) (table g places.now) place (value_at (A.leafs archive.now 0) values.now) (equation_of equation.now) }
 {
     let first = argument_value(archive, places, values, place, equation, 0);
     let second = argument_value(archive, places, values, place, equation, 1);

@@ -31,7 +31,7 @@ returns c =
     let es = c.part-equations.ensures ∙ ap (part row.equations) c.deref-3.ensures.value in
     let is = c.part-plan.ensures ∙ ap (part row.plan) c.deref-4.ensures.value in
     record {
-      rule = (λ i. Some (record { left = row.left; right = c.as_slice.ensures i; equations = map equation_of (es i); plan = is i }))
+      rule = (λ i. Some (record { left = row.left; right = c.as_slice.ensures.value i; equations = map equation_of (es i); plan = is i }))
           ∙ row_rule c.args.self.now.tables c.deref.result.now c.args.number (Some c.in_ok-row.row) c.deref.ensures.value c.in_ok-row.ensures.lookup;
       symbols = ap (map symbol_of) c.deref-2.ensures.value;
     }
