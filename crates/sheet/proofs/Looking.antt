@@ -21,12 +21,11 @@ use Rattle.reader.proofs.Spanned.{Within, within}
 use Rattle.sheet.specs.Answers.{size_of}
 use Rattle.sheet.specs.Kept.{empty, read_back}
 use Rattle.sheet.specs.Meaning.{SheetOf, sets_in, instructions_in}
-use Rattle.sheet.specs.Same.{same_grammar}
 use Rattle.sheet.specs.Writing.{write}
 use Rattle.sheet.proofs.Keeping.{empty_or_sheet}
 
 -- where the table of rules is empty the sheet is, and else it was accepted
-pub looked_empty : (t : Tables) (r : Bool) → same_grammar (read_back (grammar_in (state_of t))) (grammar_in (state_of t)) ≡ true → r ≡ eqb (vec_len t.rules) 0 → MatchBool r (grammar_in (state_of t) ≡ empty) (SheetOf (write (grammar_in (state_of t))) (grammar_in (state_of t)))
+pub looked_empty : (t : Tables) (r : Bool) → read_back (grammar_in (state_of t)) ≡ grammar_in (state_of t) → r ≡ eqb (vec_len t.rules) 0 → MatchBool r (grammar_in (state_of t) ≡ empty) (SheetOf (write (grammar_in (state_of t))) (grammar_in (state_of t)))
 looked_empty t r h e = by r (sym e) (empty_or_sheet (grammar_in (state_of t)) h)
   where
     none : (k : grammar_in (state_of t) ≡ empty) → vec_len t.rules ≡ 0
@@ -83,7 +82,7 @@ pub record Sizes (t : Tables) : Type 0 where
   pub few_sets : sets_in (rules_of t) ≤ 512
   pub few_instructions : instructions_in (rules_of t) ≤ 1024
 
-pub sizes : (t : Tables) → same_grammar (read_back (grammar_in (state_of t))) (grammar_in (state_of t)) ≡ true → Sizes t
+pub sizes : (t : Tables) → read_back (grammar_in (state_of t)) ≡ grammar_in (state_of t) → Sizes t
 sizes t h =
     let p = and_parts (every (row_fits (vec_len t.equations) (vec_len t.plan)) (vec_items t.rules)) (open_fits (vec_len t.equations) t.opened) t.spans in
     let k = rows_sizes (vec_items t.equations) (vec_items t.plan) (vec_len t.equations) (vec_len t.plan) t.equations.ok.0 t.plan.ok.0 (vec_items t.rules) p.0 in
