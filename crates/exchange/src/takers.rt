@@ -1,6 +1,5 @@
 // The instances that take others as arguments become owed.
 ghost use Rattle.std.specs.Prelude.{◌≡◌, ◌<◌, ◌≤◌, true, length, slice_index_or};
-ghost use Rattle.grammar.specs.Listed.{listed};
 ghost use Rattle.grammar.specs.Rows.{equation_of};
 ghost use Rattle.grammar.specs.Tests.{some};
 ghost use Rattle.sheet.specs.Answers.{grammar_of};
@@ -30,7 +29,7 @@ fn comes_from(argument: Argument, from: Taken) -> bool
 
 // Whether an argument of the equation comes from there.
 fn takes(equation: &EquationRow, from: Taken) -> bool
-    ensures { result ≡ some (takes_from from) (listed equation.now.arguments) }
+    ensures { result ≡ some (takes_from from) equation.now.arguments.items }
 {
     for argument in equation.arguments.as_slice() {
         if comes_from(*argument, from) {

@@ -1,13 +1,9 @@
--- What a read of an element gives, and what a word's first byte says.
-use Rattle.std.proofs.Common.{◌≡◌, ℕ, zero, suc, ◌-◌, ◌<◌, ◌≤◌, List, [], ◌∷◌, map, length, get_or, take, drop, Some, None, Option, sym, refl, ap, ◌∙◌, arith, Bor}
+-- What a read of an element gives.
+use Rattle.std.proofs.Common.{◌≡◌, ℕ, zero, suc, ◌-◌, ◌<◌, List, [], ◌∷◌, map, Some, None, Option, sym, refl, ap, ◌∙◌, arith, Bor}
 use Rattle.std.specs.Option.{option_map}
 use Rattle.std.specs.Slice.{IsGetResult}
 use Rattle.std.specs.List.{slice_get}
-use Rattle.std.proofs.lemmas.List.{take_rest}
 use Rattle.std.proofs.lemmas.Option.{slice_get_past, slice_get-get_or}
-use Rattle.std.proofs.lemmas.Bool.Decides.{nat_tests}
-use Rattle.words.specs.Numbers.{pair_in}
-use Rattle.grammar.specs.Forms.{instruction_in, evaluate_of, visit_of}
 
 pub item_nth : {X : Type 0} (xs : List X) (i : ℕ) (r : Option (Bor X)) → IsGetResult xs i i r → option_map (λ x. x.now) r ≡ slice_get xs i
 item_nth xs i None h = sym (slice_get_past xs i h.3)
@@ -29,12 +25,3 @@ item_map f xs i r h = mapped_mapped (λ x. x.now) f r ∙ ap (option_map f) (ite
 pub nth_later : {X : Type 0} (x : X) (xs : List X) (i : ℕ) → 0 < i → slice_get (x ∷ xs) i ≡ slice_get xs (i - 1)
 nth_later x xs zero h = absurd (omega arith)
 nth_later x xs (suc i) h = ap (slice_get xs) (omega arith)
-
--- the byte in front says what the rest of an instruction is
-pub led_e : (bs : List ℕ) → 1 ≤ length bs → get_or bs 0 0 ≡ 101 → evaluate_of (pair_in (take (length bs - 1) (drop 1 bs))) ≡ instruction_in bs
-led_e [] h e = absurd (omega arith)
-led_e (b ∷ bs) h e = ap (λ l. evaluate_of (pair_in l)) (take_rest (b ∷ bs) 1) ∙ grind (arith, nat_tests)
-
-pub led_v : (bs : List ℕ) → 1 ≤ length bs → get_or bs 0 0 ≡ 118 → visit_of (pair_in (take (length bs - 1) (drop 1 bs))) ≡ instruction_in bs
-led_v [] h e = absurd (omega arith)
-led_v (b ∷ bs) h e = ap (λ l. visit_of (pair_in l)) (take_rest (b ∷ bs) 1) ∙ grind (arith, nat_tests)

@@ -1,10 +1,12 @@
 -- What was read of a line's words so far.
-use Rattle.std.proofs.Common.{◌≡◌, ℕ, ◌<◌, ◌≤◌, Bool, true, false, List, [], ◌∷◌, ◌++◌, length, Some, None, MatchBool, Option, sym, refl, ap, ◌∙◌, append_assoc, append-nil, arith, length-take}
+use Rattle.std.proofs.Common.{◌≡◌, ℕ, ◌<◌, ◌≤◌, List, [], ◌∷◌, ◌++◌, length, Some, None, Ok, Err, Option, Result, MatchResult, sym, refl, ap, ◌∙◌, append_assoc, append-nil, arith, le-leb}
+use Rattle.std.specs.Result.{result_and}
 use Rattle.std.proofs.lemmas.List.{length_push}
 use Rattle.words.specs.Tokens.{Token}
-use Rattle.grammar.specs.Forms.{onto, all_of}
-use Rattle.grammar.specs.Listed.{listed}
-use Rattle.grammar.specs.declared.few.Few.{Few}
+use Rattle.grammar.specs.Forms.{onto, all_of, at_most}
+use Rattle.grammar.specs.declared.refusal.Refusal.{Refusal}
+use Rattle.grammar.specs.declared.refusal.Refusal.TheVariants.{Range}
+use Rattle.arrayvec.specs.ArrayVec.{ArrayVec}
 
 abbrev pub prefixed : {X : Type 0} → List X → Option (List X) → Option (List X)
 prefixed ps None = None
@@ -35,35 +37,27 @@ module _ {X : Type 0} (f : Token → Option X) where
   pub sofar_done : (all : List Token) (xs : List X) (ls : List Token) → Sofar all xs ls → ls ≡ [] → all_of f all ≡ Some xs
   sofar_done all xs ls h e = sym h.reads ∙ ap (λ l. prefixed xs (all_of f l)) e ∙ ap Some (append-nil xs)
 
-  -- what a short list holds of what was read: all of it, or it is full and more has come
-  pub record Taken {n : ℕ} (all ws : List Token) (few : Few X n) (full : Bool) : Type 0 where
+  -- what a list of at most n holds of what was read: all of it, or it is full and more has come
+  pub record Taken (n : ℕ) (all ws : List Token) (list : ArrayVec X) (fits : Result (Unit {0}) Refusal) : Type 0 where
     pub seen : List X
     pub sofar : Sofar all seen ws
-    pub held : MatchBool full ((n < length seen) × (length (listed few) ≡ n)) (listed few ≡ seen)
+    pub held : MatchResult fits (λ _. (list.items ≡ seen) × (length seen ≤ n)) (λ e. (e ≡ Range) × (n < length seen) × (length list.items ≡ n))
 
-  few_size : {n : ℕ} (few : Few X n) → length (listed few) ≤ n
-  few_size few = omega (arith, length-take few.len few.cells, few.within, few.size)
-
-  -- one word more, which the list had room for
-  pub taken_more : {n : ℕ} (all ls : List Token) (few few' : Few X n) (full : Bool) (w : Token) (ws : List Token) (x : X) → Taken all ls few full → ls ≡ w ∷ ws → Some x ≡ f w → listed few' ≡ listed few ++ x ∷ [] → Taken all ws few' full
-  taken_more {n} all ls few few' full w ws x h e is more = record {
+  -- one word more, which the list took if it had room
+  pub taken_more : {E : Type 0} (n : ℕ) (all ls : List Token) (list list' : ArrayVec X) (fits told : Result (Unit {0}) Refusal) (pushed : Result (Unit {0}) E) (w : Token) (ws : List Token) (x : X) → Taken n all ls list fits → ls ≡ w ∷ ws → Some x ≡ f w → MatchResult pushed (λ _. told ≡ Ok tt) (λ _. told ≡ Err Range) → MatchResult pushed (λ _. (length list.items < n) × (list'.items ≡ list.items ++ x ∷ [])) (λ _. (length list.items ≡ n) × (list' ≡ list)) → Taken n all ws list' (result_and fits told)
+  taken_more {E = E} n all ls list list' fits told pushed w ws x h e is t p = record {
     seen = h.seen ++ x ∷ [];
     sofar = sofar_more all h.seen ls w ws x h.sofar e is;
-    held = by full h.held;
+    held = by fits pushed h.held t p;
   }
     where
-      by : (t : Bool) → MatchBool t ((n < length h.seen) × (length (listed few) ≡ n)) (listed few ≡ h.seen) → MatchBool t ((n < length (h.seen ++ x ∷ [])) × (length (listed few') ≡ n)) (listed few' ≡ h.seen ++ x ∷ [])
-      by true k = absurd (omega (arith, few_size few', ap length more ∙ length_push (listed few) x))
-      by false k = more ∙ ap (λ l. l ++ x ∷ []) k
+      by : (k : Result (Unit {0}) Refusal) (q : Result (Unit {0}) E) → MatchResult k (λ _. (list.items ≡ h.seen) × (length h.seen ≤ n)) (λ e. (e ≡ Range) × (n < length h.seen) × (length list.items ≡ n)) → MatchResult q (λ _. told ≡ Ok tt) (λ _. told ≡ Err Range) → MatchResult q (λ _. (length list.items < n) × (list'.items ≡ list.items ++ x ∷ [])) (λ _. (length list.items ≡ n) × (list' ≡ list)) → MatchResult (result_and k told) (λ _. (list'.items ≡ h.seen ++ x ∷ []) × (length (h.seen ++ x ∷ []) ≤ n)) (λ e. (e ≡ Range) × (n < length (h.seen ++ x ∷ [])) × (length list'.items ≡ n))
+      by (Ok u) (Ok v) k q p = rw q (p.1 ∙ ap (λ l. l ++ x ∷ []) k.0, omega (arith, length_push h.seen x, ap length k.0, p.0))
+      by (Ok u) (Err v) k q p = rw q (refl, omega (arith, length_push h.seen x, ap length k.0, p.0), ap (λ l. length l.items) p.1 ∙ p.0)
+      by (Err r) (Ok v) k q p = absurd (omega (arith, k.2, p.0))
+      by (Err r) (Err v) k q p = (k.0, omega (arith, length_push h.seen x, k.1), ap (λ l. length l.items) p.1 ∙ p.0)
 
-  -- one word more, which found no room
-  pub taken_full : {n : ℕ} (all ls : List Token) (few few' : Few X n) (full : Bool) (w : Token) (ws : List Token) (x : X) → Taken all ls few full → ls ≡ w ∷ ws → Some x ≡ f w → length (listed few) ≡ n → few' ≡ few → Taken all ws few' true
-  taken_full {n} all ls few few' full w ws x h e is size same = record {
-    seen = h.seen ++ x ∷ [];
-    sofar = sofar_more all h.seen ls w ws x h.sofar e is;
-    held = (by full h.held, ap (λ g. length (listed g)) same ∙ size);
-  }
-    where
-      by : (t : Bool) → MatchBool t ((n < length h.seen) × (length (listed few) ≡ n)) (listed few ≡ h.seen) → n < length (h.seen ++ x ∷ [])
-      by true k = omega (arith, length_push h.seen x)
-      by false k = omega (arith, length_push h.seen x, ap length k)
+  -- what is known where no word is left
+  pub taken_all : (n : ℕ) (all : List Token) (ls : List Token) (list : ArrayVec X) (fits : Result (Unit {0}) Refusal) → Taken n all ls list fits → ls ≡ [] → fits ≡ Ok tt → Ok list.items ≡ at_most n (all_of f all)
+  taken_all n all ls list (Ok u) h e is = rw (sofar_done all h.seen ls h.sofar e) (rw h.held.0 (rw (le-leb (length h.seen) n h.held.1) refl))
+  taken_all n all ls list (Err r) h e is = absurd (grind arith)

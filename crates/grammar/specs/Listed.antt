@@ -1,12 +1,9 @@
--- What a short list holds.
-use Rattle.std.specs.Prelude.{ℕ, List, take, Ok, Err, Result}
+-- What came of reading a list.
+use Rattle.std.specs.Prelude.{List, Ok, Err, Result}
+use Rattle.arrayvec.specs.ArrayVec.{ArrayVec}
 use Rattle.grammar.specs.declared.refusal.Refusal.{Refusal}
-use Rattle.grammar.specs.declared.few.Few.{Few}
-
-abbrev pub listed : {T : Type 0} {n : ℕ} → Few T n → List T
-listed f = take f.len f.cells
 
 -- the list in what came of reading it
-abbrev pub listed_in : {T : Type 0} {n : ℕ} → Result (Few T n) Refusal → Result (List T) Refusal
-listed_in (Ok f) = Ok (listed f)
+abbrev pub listed_in : {T : Type 0} → Result (ArrayVec T) Refusal → Result (List T) Refusal
+listed_in (Ok l) = Ok l.items
 listed_in (Err e) = Err e

@@ -54,15 +54,19 @@ abbrev pub flows : Flow → Option Attribute → Bool
 flows f None = false
 flows f (Some x) = same_flow x.flow f
 
+-- the flow at an occurrence, where it is f at the left one and the other way round at the others
+abbrev pub flow_at : Flow → ℕ → Flow
+flow_at f zero = f
+flow_at Inherited (suc k) = Synthesized
+flow_at Synthesized (suc k) = Inherited
+
 -- a rule defines the synthesized attributes of its left occurrence and the inherited ones of the others
 abbrev pub defined_flow : ℕ → Flow
-defined_flow zero = Synthesized
-defined_flow (suc k) = Inherited
+defined_flow o = flow_at Synthesized o
 
 -- and takes as arguments those that come to it from outside
 abbrev pub taken_flow : ℕ → Flow
-taken_flow zero = Inherited
-taken_flow (suc k) = Synthesized
+taken_flow o = flow_at Inherited o
 
 abbrev pub defines : Scope → ℕ → ℕ → Bool
 defines σ o a = flows (defined_flow o) (attribute_at σ o a)

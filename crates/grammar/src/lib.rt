@@ -1,16 +1,14 @@
 // What a sheet speaks of: symbols with their attributes, equations, plans; and the refusals of sheets.
 #![tactic(auto)]
 
-mod few;
 mod production;
 mod read;
 mod refusal;
 mod rows;
 mod terms;
 
-pub use few::Few;
 pub use production::Production;
-pub use read::Spelled;
+pub use read::{Spelled, read_list};
 pub use refusal::{Layer, PlanRule, Refusal};
 pub use rows::{EquationRow, SymbolRow};
 pub use terms::{Argument, Attribute, Flow, Instruction};

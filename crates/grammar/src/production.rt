@@ -3,7 +3,7 @@ ghost use Rattle.std.specs.Prelude.{◌≡◌, ℕ, length, is_some};
 ghost use Rattle.std.specs.Option.{option_map};
 ghost use Rattle.std.specs.List.{slice_get};
 ghost use Rattle.grammar.specs.Rows.{symbol_of};
-ghost use Rattle.grammar.specs.Scopes.{scope_of, symbol_at, visits_at, attributes_at, attribute_at, flows, defined_flow, taken_flow, defines, takes, argument_there, argument_taken, visit_there, instruction_there};
+ghost use Rattle.grammar.specs.Scopes.{scope_of, symbol_at, visits_at, attributes_at, attribute_at, flow_at, flows, defines, takes, argument_there, argument_taken, visit_there, instruction_there};
 
 use super::rows::SymbolRow;
 use super::terms::{Argument, Attribute, Flow, Instruction};
@@ -14,46 +14,6 @@ pub struct Production<'a> {
     pub symbols: &'a [SymbolRow],
     pub left: u16,
     pub right: &'a [u16],
-}
-
-fn flows(attribute: Option<Attribute>, flow: Flow) -> bool
-    ensures { result ≡ flows flow attribute }
-{
-    match attribute {
-        Some(
-            Attribute {
-                flow: Flow::Inherited,
-                ..
-            },
-        ) => matches!(flow, Flow::Inherited),
-        Some(
-            Attribute {
-                flow: Flow::Synthesized,
-                ..
-            },
-        ) => matches!(flow, Flow::Synthesized),
-        None => false,
-    }
-}
-
-// The flow of what a rule defines at an occurrence.
-fn defined_flow(occurrence: usize) -> Flow
-    ensures { result ≡ defined_flow occurrence }
-{
-    match occurrence {
-        0 => Flow::Synthesized,
-        _ => Flow::Inherited,
-    }
-}
-
-// The flow of what a rule takes from an occurrence.
-fn taken_flow(occurrence: usize) -> Flow
-    ensures { result ≡ taken_flow occurrence }
-{
-    match occurrence {
-        0 => Flow::Inherited,
-        _ => Flow::Synthesized,
-    }
 }
 
 impl<'a> Production<'a> {
@@ -79,10 +39,7 @@ impl<'a> Production<'a> {
     pub fn visits(&self, occurrence: usize) -> u16
         ensures { result ≡ visits_at (scope_of self.now) occurrence }
     {
-        match self.symbol(occurrence) {
-            Some(symbol) => symbol.visits,
-            None => 0,
-        }
+        self.symbol(occurrence).map_or(0, |symbol| symbol.visits)
     }
 
     // The attributes of an occurrence; none where there is no such occurrence.
@@ -90,10 +47,8 @@ impl<'a> Production<'a> {
         ensures each { (a : ℕ) → slice_get result.now a ≡ attribute_at (scope_of self.now) occurrence a }
         ensures count { length result.now ≡ attributes_at (scope_of self.now) occurrence }
     {
-        match self.symbol(occurrence) {
-            Some(symbol) => symbol.attributes.as_slice(),
-            None => &[],
-        }
+        self.symbol(occurrence)
+            .map_or(&[], |symbol| symbol.attributes.as_slice())
     }
 
     pub fn attribute(&self, occurrence: usize, attribute: usize) -> Option<Attribute>
@@ -102,24 +57,26 @@ impl<'a> Production<'a> {
         self.attributes(occurrence).get(attribute).copied()
     }
 
+    // Whether an attribute is there that flows so at the left occurrence, and the other way at a right one.
+    fn flows(&self, occurrence: usize, attribute: usize, left: Flow) -> bool
+        ensures { result ≡ flows (flow_at left occurrence) (attribute_at (scope_of self.now) occurrence attribute) }
+    {
+        self.attribute(occurrence, attribute)
+            .is_some_and(|x| (x.flow == left) == (occurrence == 0))
+    }
+
     // Whether the rule has to have an equation for that attribute.
     pub fn defines(&self, occurrence: usize, attribute: usize) -> bool
         ensures { result ≡ defines (scope_of self.now) occurrence attribute }
     {
-        flows(
-            self.attribute(occurrence, attribute),
-            defined_flow(occurrence),
-        )
+        self.flows(occurrence, attribute, Flow::Synthesized)
     }
 
     // Whether an equation of the rule may take that attribute.
     pub fn takes(&self, occurrence: usize, attribute: usize) -> bool
         ensures { result ≡ takes (scope_of self.now) occurrence attribute }
     {
-        flows(
-            self.attribute(occurrence, attribute),
-            taken_flow(occurrence),
-        )
+        self.flows(occurrence, attribute, Flow::Inherited)
     }
 
     fn is_there(&self, occurrence: u16, attribute: u16) -> bool
@@ -129,7 +86,8 @@ impl<'a> Production<'a> {
             .is_some()
     }
 
-    // Whether an argument names an attribute that is there.
+    // Whether an argument names an attribute that is there. This and the next stay two matches: of a test that is called
+    // in a closure, as `is_none_or` would, the proof does not learn the answer.
     pub fn argument_there(&self, argument: Argument) -> bool
         ensures { result ≡ argument_there (scope_of self.now) argument }
     {

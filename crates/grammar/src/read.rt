@@ -2,24 +2,21 @@
 ghost use Rattle.std.specs.Prelude.{◌≡◌, Option};
 ghost use Rattle.words.specs.Tokens.{Token, token_of, number_of};
 ghost use Rattle.words.specs.Left.{left};
+ghost use Rattle.words.specs.Numbers.{number_in};
 ghost use Rattle.grammar.specs.Listed.{listed_in};
-ghost use Rattle.grammar.specs.Forms.{all_of, at_most, attribute_word, argument_word, instruction_word, attribute_in, datum_in, evaluate_of, visit_of, instruction_in};
-ghost use Rattle.words.specs.Numbers.{pair_in};
+ghost use Rattle.grammar.specs.Forms.{all_of, at_most, with_visit, attribute_word, argument_word, instruction_word};
 
-use super::few::Few;
 use super::refusal::Refusal;
 use super::terms::{Argument, Attribute, Flow, Instruction};
+use arrayvec::ArrayVec;
 use words::{Word, Words, number, pair};
 
-// What a single word can say.
+// What a single word can say. It is no `TryFrom<Word>`, since neither `u16` nor `Word` is of this crate.
 pub trait Spelled: Copy {
     ghost spelled: { Token → Option Self };
 
     fn read(word: Word<'_>) -> Option<Self>
         ensures { result ≡ spelled (token_of word.entry) };
-
-    // Any value, to fill room that is not used yet.
-    fn blank() -> Self;
 }
 
 impl Spelled for u16 {
@@ -28,134 +25,73 @@ impl Spelled for u16 {
     fn read(word: Word<'_>) -> Option<u16> {
         word.number()
     }
+}
 
-    fn blank() -> u16 {
-        0
+impl Attribute {
+    fn of(flow: Flow, digits: &[u8]) -> Option<Attribute>
+        ensures { result ≡ with_visit flow (number_in digits.now) }
+    {
+        number(digits).map(|visit| Attribute { flow, visit })
     }
 }
 
+// I or S, and then a visit.
 impl Spelled for Attribute {
     ghost spelled = { attribute_word };
 
     fn read(word: Word<'_>) -> Option<Attribute> {
         match word {
-            Word::Instruction(bytes) => attribute(bytes),
+            Word::Instruction([b'I', digits @ ..]) => Attribute::of(Flow::Inherited, digits),
+            Word::Instruction([b'S', digits @ ..]) => Attribute::of(Flow::Synthesized, digits),
             _ => None,
-        }
-    }
-
-    fn blank() -> Attribute {
-        Attribute {
-            flow: Flow::Inherited,
-            visit: 0,
         }
     }
 }
 
+// A dotted pair, or d.
 impl Spelled for Argument {
     ghost spelled = { argument_word };
 
     fn read(word: Word<'_>) -> Option<Argument> {
         match word {
-            Word::Key(bytes) => datum(bytes),
-            Word::Pair(_, _) => {
-                let (occurrence, attribute) = word.pair()?;
-                Some(Argument::Of(occurrence, attribute))
-            }
-            _ => None,
+            Word::Key([b'd']) => Some(Argument::Datum),
+            _ => word.pair().map(|(occurrence, attribute)| Argument::Of(occurrence, attribute)),
         }
-    }
-
-    fn blank() -> Argument {
-        Argument::Datum
     }
 }
 
+// e, v or r, and then a pair or a number.
 impl Spelled for Instruction {
     ghost spelled = { instruction_word };
 
     fn read(word: Word<'_>) -> Option<Instruction> {
         match word {
-            Word::Instruction(bytes) => instruction(bytes),
+            Word::Instruction([b'e', rest @ ..]) => {
+                let (occurrence, attribute) = pair(rest)?;
+                Some(Instruction::Evaluate(occurrence, attribute))
+            }
+            Word::Instruction([b'v', rest @ ..]) => {
+                let (occurrence, visit) = pair(rest)?;
+                Some(Instruction::Visit(occurrence, visit))
+            }
+            Word::Instruction([b'r', rest @ ..]) => number(rest).map(Instruction::Return),
             _ => None,
         }
     }
-
-    fn blank() -> Instruction {
-        Instruction::Return(0)
-    }
 }
 
-// I or S, and then a visit.
-fn attribute(bytes: &[u8]) -> Option<Attribute>
-    ensures { result ≡ attribute_in bytes.now }
+// What the words say, if each says something and there are at most N.
+pub fn read_list<T: Spelled + Default, const N: usize>(
+    words: Words<'_>,
+) -> Result<ArrayVec<T, N>, Refusal>
+    ensures { listed_in result ≡ at_most N (all_of T.Spelled.spelled (left words.entry)) }
 {
-    match bytes {
-        [b'I', digits @ ..] => Some(Attribute {
-            flow: Flow::Inherited,
-            visit: number(digits)?,
-        }),
-        [b'S', digits @ ..] => Some(Attribute {
-            flow: Flow::Synthesized,
-            visit: number(digits)?,
-        }),
-        _ => None,
+    let mut list = ArrayVec::new();
+    let mut fits = Ok(());
+    for placed in words {
+        let item = T::read(placed.word).ok_or(Refusal::LineForm)?;
+        fits = fits.and(list.try_push(item).map_err(|_| Refusal::Range));
     }
-}
-
-fn datum(bytes: &[u8]) -> Option<Argument>
-    ensures { result ≡ datum_in bytes.now }
-{
-    match bytes {
-        [b'd'] => Some(Argument::Datum),
-        _ => None,
-    }
-}
-
-fn evaluation(bytes: &[u8]) -> Option<Instruction>
-    ensures { result ≡ evaluate_of (pair_in bytes.now) }
-{
-    let (occurrence, attribute) = pair(bytes)?;
-    Some(Instruction::Evaluate(occurrence, attribute))
-}
-
-fn visit(bytes: &[u8]) -> Option<Instruction>
-    ensures { result ≡ visit_of (pair_in bytes.now) }
-{
-    let (occurrence, visit) = pair(bytes)?;
-    Some(Instruction::Visit(occurrence, visit))
-}
-
-// e, v or r, and then a pair or a number.
-fn instruction(bytes: &[u8]) -> Option<Instruction>
-    ensures { result ≡ instruction_in bytes.now }
-{
-    match bytes {
-        [b'e', rest @ ..] => evaluation(rest),
-        [b'v', rest @ ..] => visit(rest),
-        [b'r', rest @ ..] => Some(Instruction::Return(number(rest)?)),
-        _ => None,
-    }
-}
-
-impl<T: Spelled, const N: usize> Few<T, N> {
-    // What the words say, if each says something and there are at most N.
-    pub fn read(mut words: Words<'_>) -> Result<Few<T, N>, Refusal>
-        ensures { listed_in result ≡ at_most N (all_of T.Spelled.spelled (left words.entry)) }
-    {
-        let mut few = Few::new(T::blank());
-        let mut full = false;
-        while let Some(placed) = words.next_word() {
-            let Some(x) = T::read(placed.word) else {
-                return Err(Refusal::LineForm);
-            };
-            if !few.add(x) {
-                full = true;
-            }
-        }
-        if full {
-            return Err(Refusal::Range);
-        }
-        Ok(few)
-    }
+    fits?;
+    Ok(list)
 }

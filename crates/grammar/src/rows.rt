@@ -1,11 +1,11 @@
 // The rows of a sheet's tables.
-use super::few::Few;
 use super::terms::{Argument, Attribute};
+use arrayvec::ArrayVec;
 
 #[derive(Drop)]
 pub struct SymbolRow {
     pub visits: u16,
-    pub attributes: Few<Attribute, 16>,
+    pub attributes: ArrayVec<Attribute, 16>,
 }
 
 #[derive(Drop)]
@@ -13,5 +13,5 @@ pub struct EquationRow {
     pub occurrence: u16,
     pub attribute: u16,
     pub function: u8,
-    pub arguments: Few<Argument, 3>,
+    pub arguments: ArrayVec<Argument, 3>,
 }

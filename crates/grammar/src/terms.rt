@@ -1,22 +1,24 @@
 // The terms of a grammar that are plain values.
 
 // Inherited attributes come to a node from above, synthesized ones from below.
-#[derive(Clone, Copy, Debug, PartialEq, Eq)]
+#[derive(Clone, Copy, Debug, Default, PartialEq, Eq)]
 pub enum Flow {
+    #[default]
     Inherited,
     Synthesized,
 }
 
 // An attribute of a symbol: it is known from that visit on.
-#[derive(Clone, Copy, Debug, PartialEq, Eq)]
+#[derive(Clone, Copy, Debug, Default, PartialEq, Eq)]
 pub struct Attribute {
     pub flow: Flow,
     pub visit: u16,
 }
 
 // An argument of an equation: the node's own datum, or an attribute of an occurrence.
-#[derive(Clone, Copy, Debug, PartialEq, Eq)]
+#[derive(Clone, Copy, Debug, Default, PartialEq, Eq)]
 pub enum Argument {
+    #[default]
     Datum,
     Of(u16, u16),
 }

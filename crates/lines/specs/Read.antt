@@ -1,6 +1,5 @@
 -- What came of reading the words of a line.
 use Rattle.std.specs.Prelude.{Ok, Err, Result}
-use Rattle.grammar.specs.Listed.{listed}
 use Rattle.grammar.specs.Model.{Equation}
 use Rattle.grammar.specs.declared.rows.SymbolRow.{SymbolRow}
 use Rattle.grammar.specs.declared.refusal.Refusal.{Refusal}
@@ -10,15 +9,15 @@ use Rattle.lines.specs.declared.says.RuleWords.{RuleWords}
 use Rattle.lines.specs.declared.says.SetWords.{SetWords}
 
 abbrev pub symbol_read : Result SymbolRow Refusal → Result Line Refusal
-symbol_read (Ok s) = Ok (symbol_line s.visits (listed s.attributes))
+symbol_read (Ok s) = Ok (symbol_line s.visits s.attributes.items)
 symbol_read (Err e) = Err e
 
 abbrev pub rule_read : Result RuleWords Refusal → Result Line Refusal
-rule_read (Ok r) = Ok (rule_line r.left (listed r.right))
+rule_read (Ok r) = Ok (rule_line r.left r.right.items)
 rule_read (Err e) = Err e
 
 abbrev pub set_of : SetWords → Equation
-set_of s = record { occurrence = s.occurrence; attribute = s.attribute; function = s.function; arguments = listed s.arguments }
+set_of s = record { occurrence = s.occurrence; attribute = s.attribute; function = s.function; arguments = s.arguments.items }
 
 abbrev pub set_read : Result SetWords Refusal → Result Line Refusal
 set_read (Ok s) = Ok (set_line (set_of s))

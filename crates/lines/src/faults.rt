@@ -1,6 +1,5 @@
 // What is wrong with a line, by the words that it says and what stands before it.
 ghost use Rattle.std.specs.Prelude.{◌≡◌, not, ◌||◌, [], ◌∷◌, map, length, nat_lt};
-ghost use Rattle.grammar.specs.Listed.{listed};
 ghost use Rattle.grammar.specs.Rows.{symbol_of, equation_of};
 ghost use Rattle.grammar.specs.Scopes.{scope_of, defines, attributes_at};
 ghost use Rattle.grammar.specs.Tests.{every, every_below};
@@ -58,7 +57,7 @@ pub fn symbol_fault(symbols: &[SymbolRow], symbol: &SymbolRow) -> Option<Refusal
 
 // What is wrong with a rule, where there are so many symbols and rules before it.
 pub fn rule_fault(symbols: usize, rules: usize, row: &RuleWords) -> Option<Refusal>
-    ensures { result ≡ rule_fault symbols rules row.now.left (listed row.now.right) }
+    ensures { result ≡ rule_fault symbols rules row.now.left row.now.right.items }
 {
     if rules >= 64 {
         return Some(Refusal::Range);
@@ -79,7 +78,7 @@ fn visits_there(symbol: &SymbolRow) -> bool
 }
 
 fn symbols_there(count: usize, row: &RuleWords) -> bool
-    ensures { result ≡ every (λ x. nat_lt x count) (row.now.left ∷ listed row.now.right) }
+    ensures { result ≡ every (λ x. nat_lt x count) (row.now.left ∷ row.now.right.items) }
 {
     let there = SymbolThere { count };
     there.check(row.left) && every(&there, row.right.as_slice())

@@ -5,7 +5,8 @@ ghost use Rattle.words.specs.Left.{left};
 ghost use Rattle.lines.specs.Lines.{key_in, symbol_in, rule_in, set_in};
 ghost use Rattle.lines.specs.Read.{symbol_read, rule_read, set_read};
 
-use grammar::{Argument, Few, Refusal, SymbolRow};
+use arrayvec::ArrayVec;
+use grammar::{Argument, Refusal, SymbolRow, read_list};
 use words::Words;
 
 // The first word of a line says what kind of line it is.
@@ -45,7 +46,7 @@ impl Key {
 #[derive(Drop)]
 pub struct RuleWords {
     pub left: u16,
-    pub right: Few<u16, 4>,
+    pub right: ArrayVec<u16, 4>,
 }
 
 // The words behind `set=`.
@@ -54,14 +55,14 @@ pub struct SetWords {
     pub occurrence: u16,
     pub attribute: u16,
     pub function: u16,
-    pub arguments: Few<Argument, 3>,
+    pub arguments: ArrayVec<Argument, 3>,
 }
 
 // The words behind `symbol=`.
 pub fn symbol(mut words: Words<'_>) -> Result<SymbolRow, Refusal>
     ensures { symbol_read result ≡ symbol_in (left words.entry) }
 {
-    let Some(first) = words.next_word() else {
+    let Some(first) = words.next() else {
         return Err(Refusal::LineForm);
     };
     let Some(visits) = first.word.number() else {
@@ -69,14 +70,14 @@ pub fn symbol(mut words: Words<'_>) -> Result<SymbolRow, Refusal>
     };
     Ok(SymbolRow {
         visits,
-        attributes: Few::read(words)?,
+        attributes: read_list(words)?,
     })
 }
 
 pub fn rule(mut words: Words<'_>) -> Result<RuleWords, Refusal>
     ensures { rule_read result ≡ rule_in (left words.entry) }
 {
-    let Some(first) = words.next_word() else {
+    let Some(first) = words.next() else {
         return Err(Refusal::LineForm);
     };
     let Some(left) = first.word.number() else {
@@ -84,20 +85,20 @@ pub fn rule(mut words: Words<'_>) -> Result<RuleWords, Refusal>
     };
     Ok(RuleWords {
         left,
-        right: Few::read(words)?,
+        right: read_list(words)?,
     })
 }
 
 pub fn equation(mut words: Words<'_>) -> Result<SetWords, Refusal>
     ensures { set_read result ≡ set_in (left words.entry) }
 {
-    let Some(first) = words.next_word() else {
+    let Some(first) = words.next() else {
         return Err(Refusal::LineForm);
     };
     let Some((occurrence, attribute)) = first.word.pair() else {
         return Err(Refusal::LineForm);
     };
-    let Some(second) = words.next_word() else {
+    let Some(second) = words.next() else {
         return Err(Refusal::LineForm);
     };
     let Some(function) = second.word.number() else {
@@ -107,6 +108,6 @@ pub fn equation(mut words: Words<'_>) -> Result<SetWords, Refusal>
         occurrence,
         attribute,
         function,
-        arguments: Few::read(words)?,
+        arguments: read_list(words)?,
     })
 }

@@ -5,7 +5,6 @@ use Rattle.std.specs.declared.alloc.Global.{Global}
 use Rattle.std.proofs.lemmas.List.{take_rest, drop_at, map_push}
 use Rattle.std.proofs.lemmas.Bool.{and_parts, and_from, leb-true, le-leb, ltb-true}
 use Rattle.grammar.specs.Forms.{all_of, instruction_word}
-use Rattle.grammar.specs.Listed.{listed}
 use Rattle.grammar.specs.Rows.{equation_of}
 use Rattle.grammar.specs.Tests.{every}
 use Rattle.grammar.specs.declared.rows.SymbolRow.{SymbolRow}
@@ -94,7 +93,7 @@ plan_judged t open' is ss es js opened s e j few =
     ∙ sym (ap (λ o. on_open (option_map (open_of (vec_items t.equations)) o) (λ p. failing (leb (vec_len t.plan + length is) 1024) Range (plan_fault (scope_in (state_of t) p) p.equations is))) opened)
 
 -- what the tables show after one rule more
-pub closed_rules : (t : Tables) (open' : Opened) (is plan : List Instruction) (rows : List RuleRow) (row : RuleRow) → t.opened ≡ Some open' → plan ≡ vec_items t.plan ++ is → rows ≡ vec_items t.rules ++ row ∷ [] → rule_of (vec_items t.equations) plan row ≡ record { left = open'.left; right = listed open'.right; equations = map equation_of (drop open'.start (vec_items t.equations)); plan = is } → (state_of t).rules ++ closed is (state_of t).opened ≡ map (rule_of (vec_items t.equations) plan) rows
+pub closed_rules : (t : Tables) (open' : Opened) (is plan : List Instruction) (rows : List RuleRow) (row : RuleRow) → t.opened ≡ Some open' → plan ≡ vec_items t.plan ++ is → rows ≡ vec_items t.rules ++ row ∷ [] → rule_of (vec_items t.equations) plan row ≡ record { left = open'.left; right = open'.right.items; equations = map equation_of (drop open'.start (vec_items t.equations)); plan = is } → (state_of t).rules ++ closed is (state_of t).opened ≡ map (rule_of (vec_items t.equations) plan) rows
 closed_rules t open' is plan rows row opened joins e shows =
     let es = vec_items t.equations in
     let p = and_parts (every (row_fits (vec_len t.equations) (vec_len t.plan)) (vec_items t.rules)) (open_fits (vec_len t.equations) t.opened) t.spans in

@@ -3,7 +3,6 @@ use Rattle.std.proofs.Common.{◌≡◌, ℕ, ◌-◌, ◌≤◌, true, leb, Lis
 use Rattle.std.specs.Option.{option_map}
 use Rattle.std.proofs.lemmas.List.{take-append-le, drop-append-le, map_push}
 use Rattle.std.proofs.lemmas.Bool.{and_parts, and_from, leb-true, le-leb}
-use Rattle.grammar.specs.Listed.{listed}
 use Rattle.grammar.specs.Rows.{equation_of}
 use Rattle.grammar.specs.Tests.{every}
 use Rattle.grammar.specs.declared.rows.EquationRow.{EquationRow}
@@ -62,13 +61,13 @@ rules_more es fs is js (r ∷ rows) h =
     let q = row_parts (length es) (length is) r p.0 in
     let e = part_more r.equations es fs q.0 in
     let f = part_more r.plan is js q.1 in
-    λ i. record { left = r.left; right = listed r.right; equations = map equation_of (e i); plan = f i } ∷ rules_more es fs is js rows p.1 i
+    λ i. record { left = r.left; right = r.right.items; equations = map equation_of (e i); plan = f i } ∷ rules_more es fs is js rows p.1 i
 
 -- the open rule gains the equation
 pub open_gains : (es : List EquationRow) (e : EquationRow) (o : Option Opened) → open_fits (length es) o ≡ true → option_map (open_of (es ++ e ∷ [])) o ≡ option_map (add_to (equation_of e)) (option_map (open_of es) o)
 open_gains es e None h = refl
 open_gains es e (Some o) h =
-    ap (λ l. Some (record { left = o.left; right = listed o.right; equations = l }))
+    ap (λ l. Some (record { left = o.left; right = o.right.items; equations = l }))
     (ap (map equation_of) (drop-append-le o.start es (e ∷ []) (leb-true _ _ h)) ∙ map_push equation_of (drop o.start es) e)
 
 -- what the tables show after one equation more

@@ -2,7 +2,6 @@
 use Rattle.std.proofs.Common.{◌≡◌, ℕ, ◌<◌, ◌≤◌, Bool, true, false, ◌&&◌, ltb, leb, List, ◌∷◌, map, length, drop, Some, None, Ok, vec_items, vec_len, Option, Result, sym, refl, ap, ◌∙◌, arith}
 use Rattle.std.specs.Option.{option_map}
 use Rattle.std.proofs.lemmas.Bool.{ltb-true, lt-ltb, leb-true, le-leb, and_from}
-use Rattle.grammar.specs.Listed.{listed}
 use Rattle.grammar.specs.Model.{Symbol, Equation}
 use Rattle.grammar.specs.Rows.{symbol_of, equation_of}
 use Rattle.grammar.specs.declared.rows.SymbolRow.{SymbolRow}
@@ -48,7 +47,7 @@ failing_so : (t : Bool) (r : Refusal) (later : Option Refusal) → t ≡ true �
 failing_so t r later e = ap (λ b. failing b r later) e
 
 -- the fault of an equation, by the parts of the tables that it is judged from
-pub set_judged : (t : Tables) (open' : Opened) (e : Equation) (ss : List SymbolRow) (rs : List ℕ) (es : List EquationRow) → t.opened ≡ Some open' → ss ≡ vec_items t.symbols → rs ≡ listed open'.right → es ≡ drop open'.start (vec_items t.equations) → e.function ≤ 255 → vec_len t.equations < 512 → set_fault (record { symbols = map symbol_of ss; occurrences = open'.left ∷ rs }) (map equation_of es) e ≡ fault_of (state_of t) (set_line e)
+pub set_judged : (t : Tables) (open' : Opened) (e : Equation) (ss : List SymbolRow) (rs : List ℕ) (es : List EquationRow) → t.opened ≡ Some open' → ss ≡ vec_items t.symbols → rs ≡ open'.right.items → es ≡ drop open'.start (vec_items t.equations) → e.function ≤ 255 → vec_len t.equations < 512 → set_fault (record { symbols = map symbol_of ss; occurrences = open'.left ∷ rs }) (map equation_of es) e ≡ fault_of (state_of t) (set_line e)
 set_judged t open' e ss rs es is s r q small few =
     (λ i. set_fault (record { symbols = map symbol_of (s i); occurrences = open'.left ∷ r i }) (map equation_of (q i)) e)
     ∙ sym (failing_so (leb e.function 255 && ltb (vec_len t.equations) 512) Range _ (and_from _ _ (le-leb _ _ small) (lt-ltb _ _ few)))

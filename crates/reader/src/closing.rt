@@ -24,7 +24,7 @@ fn read_plan(mut words: Words<'_>, plan: &mut Vec<Instruction>) -> Result<(), Re
     ensures capacity { vec_capacity plan.new ≡ vec_capacity plan.old }
 {
     let mut many = plan.len() > 1024;
-    while let Some(placed) = words.next_word() {
+    while let Some(placed) = words.next() {
         let Some(instruction) = Instruction::read(placed.word) else {
             return Err(Refusal::LineForm);
         };

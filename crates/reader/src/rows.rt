@@ -1,5 +1,5 @@
 // Rows that name parts of other tables.
-use grammar::Few;
+use arrayvec::ArrayVec;
 
 // From `start` up to `end`, which is not in it.
 #[derive(Clone, Copy)]
@@ -11,7 +11,7 @@ pub struct Span {
 #[derive(Drop)]
 pub struct RuleRow {
     pub left: u16,
-    pub right: Few<u16, 4>,
+    pub right: ArrayVec<u16, 4>,
     pub equations: Span,
     pub plan: Span,
 }
@@ -20,6 +20,6 @@ pub struct RuleRow {
 #[derive(Drop)]
 pub struct Opened {
     pub left: u16,
-    pub right: Few<u16, 4>,
+    pub right: ArrayVec<u16, 4>,
     pub start: usize,
 }

@@ -2,7 +2,6 @@
 ghost use Rattle.std.specs.Prelude.{◌≡◌, ◌+◌, ◌*◌, ◌<◌, ◌≤◌, true, ◌==◌, ◌&&◌, map, length, MatchBool, MatchOption, ◌≢◌, slice_index_or, slice_set};
 ghost use Rattle.std.specs.List.{find};
 ghost use Rattle.std.specs.Option.{option_map};
-ghost use Rattle.grammar.specs.Listed.{listed};
 ghost use Rattle.grammar.specs.Model.{Grammar};
 ghost use Rattle.grammar.specs.Rows.{equation_of};
 ghost use Rattle.places.specs.Places.{used, table, value_at};
@@ -76,7 +75,7 @@ impl<'a, A: Archive> Desk<'a, A> {
 
     // The value of one of the arguments of an equation.
     fn argument(&self, equation: &EquationRow, number: usize) -> A::Value
-        ensures { result ≡ argument_by (meaning_of (A.leafs self.now.archive.now) (A.results self.now.archive.now)) (at_of self.now.place self.now.node.children) self.now.node.datum (value_at (A.leafs self.now.archive.now 0) self.now.values.now) (listed equation.now.arguments) number }
+        ensures { result ≡ argument_by (meaning_of (A.leafs self.now.archive.now) (A.results self.now.archive.now)) (at_of self.now.place self.now.node.children) self.now.node.datum (value_at (A.leafs self.now.archive.now 0) self.now.values.now) equation.now.arguments.items number }
     {
         self.given(equation.arguments.as_slice().get(number).copied())
     }

@@ -1,5 +1,5 @@
 -- Laws of `cut_at` and `parts_at`.
-use Rattle.std.proofs.Common.{◌≡◌, ℕ, zero, suc, ◌+◌, ◌-◌, ◌<◌, Bool, true, false, eqb, List, [], ◌∷◌, ◌++◌, length, get_or, take, Some, None, Option, sym, refl, ap, ◌∙◌, subst, arith}
+use Rattle.std.proofs.Common.{◌≡◌, ℕ, zero, suc, ◌+◌, ◌<◌, Bool, true, false, eqb, List, [], ◌∷◌, ◌++◌, length, get_or, take, Some, None, Option, sym, refl, ap, ◌∙◌, subst, arith}
 use Rattle.std.specs.List.{between}
 use Rattle.std.proofs.lemmas.List.{take-append-drop, drop_more, take_rest, length-take-le, get_or-take}
 use Rattle.std.proofs.lemmas.Bool.{eqb-true, eqb-false, eq-eqb, ne_eqb}
@@ -73,15 +73,14 @@ pub parts_last : (c : ℕ) (s : List ℕ) → cut_at c s ≡ None → parts_at c
 parts_last c s e = parts_none c s (cut_lacks c s e)
 
 -- the place of the first c gives the cut
-pub cut_at_lem : (s : List ℕ) (i c : ℕ) → i < length s → get_or s i 0 ≡ c → ((k : ℕ) → k < i → get_or s k 0 ≡ c → ⊥) → cut_at c s ≡ Some (record { before = take (i - 0) s; after = between (i + 1) (length s) s })
+pub cut_at_lem : (s : List ℕ) (i c : ℕ) → i < length s → get_or s i 0 ≡ c → ((k : ℕ) → k < i → get_or s k 0 ≡ c → ⊥) → cut_at c s ≡ Some (record { before = take i s; after = between (i + 1) (length s) s })
 cut_at_lem s i c h e f =
-    let z : i - 0 ≡ i = omega arith in
     let t = take-append-drop i s in
     let d = drop_more s i 0 h in
     let r = take_rest s (i + 1) in
-    let w : s ≡ take (i - 0) s ++ c ∷ between (i + 1) (length s) s = cc in
-    let lacks : Lacks c (take (i - 0) s) = subst (λ j. Lacks c (take j s)) (sym z) (λ k l q. let n = length-take-le i s (omega arith) in let m : k < i = omega arith in f k m (sym (get_or-take i s k 0 m) ∙ q)) in
-    ap (cut_at c) w ∙ cut_found c (take (i - 0) s) (between (i + 1) (length s) s) lacks
+    let w : s ≡ take i s ++ c ∷ between (i + 1) (length s) s = cc in
+    let lacks : Lacks c (take i s) = λ k l q. let n = length-take-le i s (omega arith) in let m : k < i = omega arith in f k m (sym (get_or-take i s k 0 m) ∙ q) in
+    ap (cut_at c) w ∙ cut_found c (take i s) (between (i + 1) (length s) s) lacks
 
 pub parts_some : (c : ℕ) (bs : List ℕ) → 0 < length (parts_at c bs)
 parts_some c [] = omega arith

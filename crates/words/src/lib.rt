@@ -1,11 +1,12 @@
 // The words of a text: parts that borrow its bytes, each with its line.
 #![tactic(auto)]
 
-ghost use Rattle.std.specs.Prelude.{◌≡◌, ◌<◌, [], ◌∷◌, length, IfNone, Some, None, MatchOption};
+ghost use Rattle.std.specs.Prelude.{◌≡◌, ◌-◌, ◌<◌, [], ◌∷◌, cond, length, Some, None, MatchOption};
+ghost use Rattle.std.specs.Iterator.{item_count};
 ghost use Rattle.words.specs.Cuts.{cut_at};
-ghost use Rattle.words.specs.Numbers.{both, number_in, pair_in};
-ghost use Rattle.words.specs.Tokens.{lex, token_of, number_of, pair_word, line_in};
-ghost use Rattle.words.specs.Left.{left, KeyedLine};
+ghost use Rattle.words.specs.Numbers.{both, digit, number_in, pair_in};
+ghost use Rattle.words.specs.Tokens.{lex, token_of, number_of, pair_word, words_in, line_in};
+ghost use Rattle.words.specs.Left.{left, left_in, Gives, KeyedLine};
 
 // A word of a line. Numbers and pairs are told by their first byte and their dot alone; whether their digits make
 // a number is asked later.
@@ -28,12 +29,14 @@ pub struct Placed<'a> {
 pub fn cut(s: &[u8], c: u8) -> Option<(&[u8], &[u8])>
     ensures { MatchOption result (cut_at c s.now ≡ None) (λ p. (cut_at c s.now ≡ Some (record { before = p.0.now; after = p.1.now })) × (length p.1.now < length s.now)) }
 {
-    for (i, x) in s.iter().enumerate() {
-        if *x == c {
-            return Some((&s[0..i], &s[i + 1..]));
-        }
-    }
-    None
+    let at = s.iter().position(|x| *x == c)?;
+    Some((&s[..at], &s[at + 1..]))
+}
+
+fn digit(byte: u8) -> Option<u16>
+    ensures { result ≡ cond (digit byte) (Some (byte - 48)) None }
+{
+    byte.is_ascii_digit().then(|| u16::from(byte - b'0'))
 }
 
 // 0, or 1 to 3 digits, the first not 0.
@@ -41,13 +44,10 @@ pub fn number(digits: &[u8]) -> Option<u16>
     ensures { result ≡ number_in digits.now }
 {
     match digits {
-        [a @ b'0'..=b'9'] => Some(u16::from(*a - b'0')),
-        [a @ b'1'..=b'9', b @ b'0'..=b'9'] => {
-            Some(u16::from(*a - b'0') * 10 + u16::from(*b - b'0'))
-        }
-        [a @ b'1'..=b'9', b @ b'0'..=b'9', c @ b'0'..=b'9'] => {
-            Some(u16::from(*a - b'0') * 100 + u16::from(*b - b'0') * 10 + u16::from(*c - b'0'))
-        }
+        [a] => digit(*a),
+        [b'0', ..] => None,
+        [a, b] => Some(digit(*a)? * 10 + digit(*b)?),
+        [a, b, c] => Some(digit(*a)? * 100 + digit(*b)? * 10 + digit(*c)?),
         _ => None,
     }
 }
@@ -71,10 +71,10 @@ impl<'a> Word<'a> {
         ensures { token_of result ≡ lex bytes.now }
     {
         match bytes {
-            [b'0'..=b'9', ..] => match cut(bytes, b'.') {
-                Some((a, b)) => Word::Pair(a, b),
-                None => Word::Number(bytes),
-            },
+            [b'0'..=b'9', ..] => cut(bytes, b'.').map_or(
+                Word::Number(bytes),
+                |(a, b)| Word::Pair(a, b),
+            ),
             [_, b'0'..=b'9', ..] => Word::Instruction(bytes),
             _ => Word::Key(bytes),
         }
@@ -115,30 +115,27 @@ pub struct Line<'a> {
     pub words: Words<'a>,
 }
 
-impl<'a> Words<'a> {
-    pub fn next_word(&mut self) -> Option<Placed<'a>>
-        ensures word { MatchOption result (left self.old ≡ []) (λ p. (left self.old ≡ token_of p.word ∷ left self.new) × (p.line ≡ self.old.line)) }
-        ensures ended { IfNone result (left self.new ≡ []) }
-        ensures line { self.new.line ≡ self.old.line }
-    {
-        let text = self.rest?;
-        let line = self.line;
-        match cut(text, b' ') {
-            Some((first, after)) => {
-                self.rest = Some(after);
-                Some(Placed {
-                    word: Word::of(first),
-                    line,
-                })
-            }
-            None => {
-                self.rest = None;
-                Some(Placed {
-                    word: Word::of(text),
-                    line,
-                })
-            }
-        }
+// What stands before the first space of a text, and what behind it; all of it, and nothing, where there is no space.
+fn first(text: &[u8]) -> (&[u8], Option<&[u8]>)
+    ensures { words_in text.now ≡ lex result.0.now ∷ left_in result.1 }
+{
+    cut(text, b' ').map_or((text, None), |(word, rest)| (word, Some(rest)))
+}
+
+impl<'a> Iterator for Words<'a> {
+    type Item = Placed<'a>;
+
+    ghost next_gives = { Gives };
+
+    ghost remaining = { item_count left };
+
+    fn next(&mut self) -> Option<Placed<'a>> {
+        let (word, rest) = first(self.rest?);
+        self.rest = rest;
+        Some(Placed {
+            word: Word::of(word),
+            line: self.line,
+        })
     }
 }
 

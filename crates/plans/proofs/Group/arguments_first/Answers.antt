@@ -28,7 +28,7 @@ loop-equation-preserved c =
     upto_read (λ _ e. Follows σ plan i c.in-Evaluate.o c.in-Evaluate.a (equation_of e)) c.args.self.now.equations.now c.loop-equation.equation-index c.equation-item.result c.loop-equation-test.true c.equation-item.is c.loop-equation.invariant
     (λ to. elim c.if-equation-o.branch [
       | then-equation-o+then-equation-a+else-loop-argument-test w ↦
-          subst (AllByRecursion (Known σ plan i)) w.as_slice-argument-items.ensures (throughout_all (Known σ plan i) _ (upto_all _ _ _ w.loop-argument-test.false w.loop-argument.invariant))
+          subst (AllByRecursion (Known σ plan i)) w.as_slice-argument-items.ensures.value (throughout_all (Known σ plan i) _ (upto_all _ _ _ w.loop-argument-test.false w.loop-argument.invariant))
       | else-equation-o w ↦ elim w.else-equation-o.branch [
         | else-equation-o-via-then-equation-o+else-equation-a v ↦ absurd (v.if-equation-a.false to.1)
         | else-equation-o-via-else-equation-o v ↦ absurd (v.if-equation-o.false to.0)
@@ -69,7 +69,7 @@ returns-then-not-known c =
     let ready = upto_here (EvaluationReady σ (group_equations c.args.self.now) plan) plan i _ c.loop-i-test.true (arguments_at σ (group_equations c.args.self.now) plan h) in
     let each = evaluation_at σ rows plan i _ c.in-Evaluate.o c.in-Evaluate.a c.in-Evaluate.is ready in
     let all = here_read _ rows c.loop-equation.equation-index c.equation-item.result c.loop-equation-test.true c.equation-item.is each (c.if-equation-o.true, c.if-equation-a.true) in
-    let listed = all_throughout (Known σ plan i) c.as_slice-argument-items.result.now (subst (AllByRecursion (Known σ plan i)) (sym c.as_slice-argument-items.ensures) all) in
+    let listed = all_throughout (Known σ plan i) c.as_slice-argument-items.result.now (subst (AllByRecursion (Known σ plan i)) (sym c.as_slice-argument-items.ensures.value) all) in
     not_from_Decides _ (Decides-at _ _ c.known.ensures (known_decides σ plan i _)) c.if-not-known.true (upto_here (λ _ t. Known σ plan i t) c.as_slice-argument-items.result.now c.loop-argument.argument-index _ c.loop-argument-test.true listed)
 
 pub returns-after-loop-i : goal.returns-after-loop-i

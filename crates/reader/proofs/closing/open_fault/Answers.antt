@@ -6,4 +6,4 @@ use Rattle.reader.proofs.closing.open_fault.Goals as goal
 pub returns : goal.returns
 returns c =
     c.plan_fault.ensures
-    ∙ ap (λ rs. plan_fault (record { symbols = map symbol_of c.args.symbols.now; occurrences = c.args.open.now.left ∷ rs }) (map equation_of c.args.equations.now) c.args.plan.now) c.as_slice.ensures
+    ∙ ap (λ rs. plan_fault (record { symbols = map symbol_of c.args.symbols.now; occurrences = c.args.open.now.left ∷ rs }) (map equation_of c.args.equations.now) c.args.plan.now) c.as_slice.ensures.value

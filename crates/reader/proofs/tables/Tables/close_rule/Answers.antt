@@ -2,7 +2,6 @@ use Rattle.std.proofs.Common.{◌≡◌, ◌+◌, ◌-◌, map, length, take, dr
 use Rattle.std.specs.Option.{option_map}
 use Rattle.std.proofs.lemmas.List.{take_rest}
 use Rattle.words.specs.Left.{left}
-use Rattle.grammar.specs.Listed.{listed}
 use Rattle.grammar.specs.Rows.{equation_of}
 use Rattle.lines.specs.LineKinds.Line.{plan_line}
 use Rattle.reader.specs.Spans.{open_few}
@@ -74,7 +73,7 @@ returns-in-None c =
     (omega (arith, p.few, t.plan.ok.0)))
     ∙ (λ i. next (record {
       symbols = (state_of t).symbols;
-      rules = closed_rules t open' is (vec_items c.read_plan.new.plan) (vec_items c.push_reserved.new.self) _ opened p.joins c.push_reserved.ensures.items (λ j. record { left = open'.left; right = listed open'.right; equations = map equation_of (whole j); plan = ours j }) i;
+      rules = closed_rules t open' is (vec_items c.read_plan.new.plan) (vec_items c.push_reserved.new.self) _ opened p.joins c.push_reserved.ensures.items (λ j. record { left = open'.left; right = open'.right.items; equations = map equation_of (whole j); plan = ours j }) i;
       opened = none i;
       sets = (state_of t).sets;
       steps = steps i;
