@@ -15,7 +15,8 @@ use Rattle.places.specs.Places.{attributes}
 use Rattle.places.specs.declared.node.Node.{Node}
 use Rattle.blocks.specs.Blank.{blank_row, blanked, Blanked}
 use Rattle.blocks.specs.Block.{pairs}
-use Rattle.blocks.specs.Taken.{free, taken}
+use Rattle.places.specs.Totals.{free}
+use Rattle.blocks.specs.Taken.{taken}
 use Rattle.blocks.specs.Written.{BlockTree}
 use Rattle.blocks.specs.declared.piece.Piece.{Piece}
 use Rattle.blocks.proofs.Laying.{in_row}

@@ -1,4 +1,3 @@
-pub mod Sound
 pub mod Fronts
 pub mod Rows
 pub mod Free

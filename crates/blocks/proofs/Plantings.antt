@@ -10,10 +10,11 @@ use Rattle.tour.proofs.Lists.{head_same, tail_same}
 use Rattle.places.specs.declared.node.Node.{Node}
 use Rattle.places.specs.declared.node.Parent.{Parent}
 use Rattle.blocks.specs.Block.{pair_of, pairs}
-use Rattle.blocks.specs.Kinds.{Known}
+use Rattle.places.specs.Kinds.{Known}
 use Rattle.blocks.specs.Planted.{four_of, fresh, next_to, first_below, laid}
 use Rattle.blocks.specs.Plantings.{Fits, Laid, NoPlanting, Planting}
-use Rattle.blocks.specs.Taken.{free_from, free_after}
+use Rattle.places.specs.Totals.{free_from}
+use Rattle.blocks.specs.Taken.{free_after}
 use Rattle.blocks.specs.declared.piece.Piece.{Piece}
 
 four_more : (x : ℕ) (xs : List ℕ) → (x ∷ get_or (four_of xs) 0 0 ∷ get_or (four_of xs) 1 0 ∷ get_or (four_of xs) 2 0 ∷ []) ≡ four_of (x ∷ xs)

@@ -6,7 +6,7 @@ use Rattle.grammar.specs.Model.{Grammar}
 use Rattle.tour.specs.Rules.{rule}
 use Rattle.tour.specs.Blocks.{reads}
 use Rattle.blocks.specs.Block.{pairs, deepest, if_not, tree_fault}
-use Rattle.blocks.specs.Kinds.{Known}
+use Rattle.places.specs.Kinds.{Known}
 use Rattle.blocks.specs.Rows.{NoRow, Row}
 use Rattle.blocks.specs.declared.piece.Piece.{Piece}
 use Rattle.blocks.specs.declared.piece.BlockFault.TheVariants.{Form, Depth}

@@ -18,7 +18,8 @@ use Rattle.places.specs.declared.node.Parent.{Parent}
 use Rattle.blocks.specs.Block.{deepest, own_symbol}
 use Rattle.blocks.specs.Planted.{four_of, fresh, next_to, first_below}
 use Rattle.blocks.specs.Sound.{SoundLaw, EmptyLaw}
-use Rattle.blocks.specs.Taken.{free_from, taken}
+use Rattle.places.specs.Totals.{free_from}
+use Rattle.blocks.specs.Taken.{taken}
 use Rattle.blocks.proofs.Laying.{Narrow, Stand, laid_length, laid_stand, agrees_many}
 use Rattle.blocks.proofs.Depths.{within}
 use Rattle.blocks.proofs.Taking.{taken_takes}

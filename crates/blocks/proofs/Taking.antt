@@ -4,7 +4,8 @@ use Rattle.std.proofs.lemmas.List.{length-take-le, take-append-drop}
 use Rattle.tour.specs.Runs.{In, Apart}
 use Rattle.places.specs.Places.{at}
 use Rattle.places.specs.declared.node.Node.{Node}
-use Rattle.blocks.specs.Taken.{free_from, free, taken, TakenLaw}
+use Rattle.places.specs.Totals.{free_from, free}
+use Rattle.blocks.specs.Taken.{taken, TakenLaw}
 
 in_take : {X : Type 0} (x : X) (n : ℕ) (xs : List X) → In x (take n xs) → In x xs
 in_take x zero xs h = absurd h

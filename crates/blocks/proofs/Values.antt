@@ -11,7 +11,8 @@ use Rattle.places.specs.Places.{attributes}
 use Rattle.places.specs.declared.node.Node.{Node}
 use Rattle.blocks.specs.Blank.{blank_row, blanked}
 use Rattle.blocks.specs.Block.{pairs}
-use Rattle.blocks.specs.Taken.{free, taken}
+use Rattle.places.specs.Totals.{free}
+use Rattle.blocks.specs.Taken.{taken}
 use Rattle.blocks.specs.declared.piece.Piece.{Piece}
 
 -- the rules of a block that is read are known

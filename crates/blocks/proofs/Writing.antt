@@ -21,11 +21,12 @@ use Rattle.places.specs.declared.node.Node.{Node}
 use Rattle.blocks.specs.Block.{pair_of, pairs, own_symbol}
 use Rattle.blocks.specs.Planted.{four_of, fresh, laid}
 use Rattle.blocks.specs.Plantings.{Fits, NoPlanting, Planting}
-use Rattle.blocks.specs.Taken.{free, taken, Takes}
+use Rattle.places.specs.Totals.{free}
+use Rattle.blocks.specs.Taken.{taken, Takes}
 use Rattle.blocks.specs.Written.{BlockTree, Written}
 use Rattle.blocks.specs.declared.piece.Piece.{Piece}
 use Rattle.blocks.proofs.Laying.{Narrow, laid_other, laid_stand, stand_shows, stand_owed}
-use Rattle.blocks.proofs.Sound.{sheet_sound}
+use Rattle.places.proofs.Sheets.{sheet_sound}
 use Rattle.blocks.proofs.Taking.{taken_takes, taken_first}
 
 pub narrow : (g : Grammar) → Sound g → Narrow g

@@ -1,4 +1,3 @@
-pub mod Kinds
 pub mod Block
 pub mod Rows
 pub mod Taken

@@ -5,7 +5,7 @@ use Rattle.sheet.specs.Meaning.{Sound}
 use Rattle.places.specs.Shape.{SoundPlaces}
 use Rattle.places.specs.declared.node.Node.{Node}
 use Rattle.blocks.specs.Block.{pairs, deepest}
-use Rattle.blocks.specs.Taken.{free}
+use Rattle.places.specs.Totals.{free}
 use Rattle.blocks.specs.Written.{Written}
 use Rattle.blocks.specs.declared.piece.Piece.{Piece}
 

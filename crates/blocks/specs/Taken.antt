@@ -1,20 +1,11 @@
 -- Which places a block takes.
-use Rattle.std.specs.Prelude.{◌≡◌, ℕ, suc, ◌<◌, ◌≤◌, List, [], ◌∷◌, length, take, drop, Some, None, Option}
+use Rattle.std.specs.Prelude.{◌≡◌, ℕ, ◌<◌, ◌≤◌, List, length, take, drop, None, Option}
 use Rattle.tour.specs.Runs.{In, Apart}
 use Rattle.places.specs.Places.{at}
+use Rattle.places.specs.Totals.{free_from, free}
 use Rattle.places.specs.declared.node.Node.{Node}
 
--- the free places of a table whose first place has number i
-abbrev pub free_from : ℕ → List (Option Node) → List ℕ
-free_from i [] = []
-free_from i (None ∷ ps) = i ∷ free_from (suc i) ps
-free_from i (Some n ∷ ps) = free_from (suc i) ps
-
--- the free places of a table, in order
-abbrev pub free : List (Option Node) → List ℕ
-free ps = free_from 0 ps
-
--- those from number i on
+-- the free places from number i on
 abbrev pub free_after : ℕ → List (Option Node) → List ℕ
 free_after i ps = free_from i (drop i ps)
 

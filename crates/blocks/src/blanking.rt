@@ -5,14 +5,14 @@ ghost use Rattle.tour.specs.Blocks.{reads};
 ghost use Rattle.tour.specs.Trees.{Forest};
 ghost use Rattle.blocks.specs.Blank.{blank_row, blanked, Blanked};
 ghost use Rattle.blocks.specs.Block.{pairs, own_symbol};
-ghost use Rattle.blocks.specs.Taken.{free, taken};
+ghost use Rattle.places.specs.Totals.{free};
+ghost use Rattle.blocks.specs.Taken.{taken};
 ghost use Rattle.blocks.specs.Written.{BlockTree};
 
 use super::finding::first_free;
-use super::kinds::kind_of;
 use super::piece::Piece;
 use archive::Archive;
-use places::Place;
+use places::{Place, kind_of};
 use sheet::Sheet;
 
 // Sets the first values of a place.
@@ -41,9 +41,11 @@ pub fn blank_values<A: Archive>(
     ensures blank { (f : Forest) → BlockTree (grammar_of sheet.now) places.now block.now f → Blanked (grammar_of sheet.now) (A.leafs archive.now 0) f values.old values.new }
 {
     let blank = archive.leaf(0);
+    // Zipped with a filtered chain of places the loop would need no number, but the check can't type that chain's iterator
+    // in a generic function.
     let mut next = 0;
     for piece in block {
-        let Some(kind) = kind_of(sheet, piece.rule) else {
+        let Some(kind) = kind_of(sheet, piece.rule as usize) else {
             return;
         };
         let Some(place) = first_free(places, next) else {

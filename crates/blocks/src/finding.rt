@@ -1,6 +1,7 @@
 // Free places are found in order.
 ghost use Rattle.std.specs.Prelude.{◌≡◌, ◌+◌, ◌<◌, ◌≤◌, [], ◌∷◌, is_some, length, not, position, IfSome, MatchOption};
-ghost use Rattle.blocks.specs.Taken.{free, free_after};
+ghost use Rattle.places.specs.Totals.{free};
+ghost use Rattle.blocks.specs.Taken.{free_after};
 
 use places::Place;
 
@@ -18,17 +19,4 @@ pub fn first_free(places: &[Place], from: usize) -> Option<usize>
 {
     let ahead = before_free(places.get(from..)?)?;
     Some(from + ahead)
-}
-
-// How many places are free.
-pub fn count_free(places: &[Place]) -> usize
-    ensures { result ≡ length (free places.now) }
-{
-    let mut count = 0;
-    for place in places {
-        if place.is_none() {
-            count += 1;
-        }
-    }
-    count
 }

@@ -7,8 +7,8 @@ ghost use Rattle.sheet.specs.Answers.{grammar_of};
 ghost use Rattle.blocks.specs.Block.{pairs, own_symbol, block_fault, tree_fault, symbol_or};
 ghost use Rattle.blocks.specs.Rows.{NoRow, Row};
 
-use super::kinds::kind_of;
 use super::piece::{BlockFault, Piece};
+use places::kind_of;
 use sheet::Sheet;
 
 const MOST_PIECES: usize = 1024;
@@ -32,7 +32,7 @@ fn measure_row<'a>(
     let [first, rest @ ..] = pieces else {
         return None;
     };
-    let kind = kind_of(sheet, first.rule)?;
+    let kind = kind_of(sheet, first.rule as usize)?;
     if kind.left != *symbol {
         return None;
     }
@@ -47,7 +47,7 @@ fn first_symbol(sheet: &Sheet, named: Option<u16>, block: &[Piece]) -> Option<u1
 {
     match (named, block) {
         (Some(symbol), _) => Some(symbol),
-        (None, [first, ..]) => kind_of(sheet, first.rule).map(|kind| kind.left),
+        (None, [first, ..]) => kind_of(sheet, first.rule as usize).map(|kind| kind.left),
         (None, []) => None,
     }
 }

@@ -5,14 +5,12 @@ mod blanking;
 mod clearing;
 mod finding;
 mod judging;
-mod kinds;
 mod laws;
 mod piece;
 mod planting;
 
 pub use blanking::blank_values;
 pub use clearing::free_all;
-pub use finding::count_free;
 pub use judging::judge_block;
 pub use laws::{empty_tables_stand, judgement_stands, taken_places_stand, written_blocks_stand};
 pub use piece::{BlockFault, Piece};

@@ -5,13 +5,12 @@ ghost use Rattle.tour.specs.Blocks.{reads};
 ghost use Rattle.blocks.specs.Block.{pairs, own_symbol};
 ghost use Rattle.blocks.specs.Planted.{next_to, first_below};
 ghost use Rattle.blocks.specs.Plantings.{NoPlanting, Planting, position_in};
-ghost use Rattle.blocks.specs.Taken.{free};
+ghost use Rattle.places.specs.Totals.{free};
 ghost use Rattle.blocks.specs.Written.{Written};
 
 use super::finding::first_free;
-use super::kinds::kind_of;
 use super::piece::Piece;
-use places::{Node, Parent, Place};
+use places::{Node, Parent, Place, kind_of};
 use sheet::Sheet;
 
 // The marks under which that many attributes are owed.
@@ -85,7 +84,7 @@ impl<'b, 's> Planter<'b, 's> {
         let [first, rest @ ..] = self.pieces else {
             return None;
         };
-        let kind = kind_of(self.sheet, first.rule)?;
+        let kind = kind_of(self.sheet, first.rule as usize)?;
         let place = first_free(places, self.next)?;
         self.pieces = rest;
         self.next = place + 1;

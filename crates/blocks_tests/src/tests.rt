@@ -2,8 +2,8 @@
 ghost use Rattle.std.specs.Prelude.{◌≤◌, length, None};
 
 use archive::Archive;
-use blocks::{BlockFault, Piece, blank_values, count_free, free_all, judge_block, write_block};
-use places::{Node, Place};
+use blocks::{BlockFault, Piece, blank_values, free_all, judge_block, write_block};
+use places::{Node, Place, free_places};
 use sheet::Sheet;
 use std::test::*;
 
@@ -165,15 +165,15 @@ fn written_into_free_places(rt: HostRuntime) -> Result<(), Fail> {
     let Ok(()) = judge_block(&sheet, Some(1), &block) else {
         return Err(Fail::new("the block has no fault"));
     };
-    assert!(rt; block.len() <= count_free(&places));
+    assert!(rt; block.len() <= free_places(&places));
     let root = write_block(&sheet, &mut places, &block);
     assert!(rt; root == 0);
     assert!(rt; holds(places[0], 1, 0, 2, 3) && hangs(places[0], 0));
     assert!(rt; holds(places[2], 2, 7, 0, 0) && hangs(places[2], 1));
     assert!(rt; holds(places[3], 2, 7, 0, 0) && hangs(places[3], 2));
-    assert!(rt; places[4].is_none() && count_free(&places) == 1);
+    assert!(rt; places[4].is_none() && free_places(&places) == 1);
     free_all(&mut places);
-    assert!(rt; count_free(&places) == 5);
+    assert!(rt; free_places(&places) == 5);
     Ok(())
 }
 
@@ -217,7 +217,7 @@ fn values_of_a_leaf(rt: HostRuntime) -> Result<(), Fail> {
     let Ok(()) = judge_block(&sheet, None, &block) else {
         return Err(Fail::new("the block has no fault"));
     };
-    assert!(rt; block.len() <= count_free(&places));
+    assert!(rt; block.len() <= free_places(&places));
     blank_values(&sheet, &Codes, &places, &block, &mut values);
     assert!(rt; values[15] == 9 && values[16] == 0);
     assert!(rt; values[19] == 0 && values[20] == 9);

@@ -4,6 +4,7 @@ ghost use Rattle.grammar.specs.Refusals.{rule_number, refusal_number, layer_of};
 ghost use Rattle.grammar.specs.Sentences.{layer_text, plan_sentence, refusal_sentence};
 ghost use Rattle.grammar.specs.declared.refusal.Refusal.TheVariants.{Plan};
 
+use std::error::Error;
 use std::fmt;
 
 // The rules of a plan, in the order in which they are looked at.
@@ -154,3 +155,7 @@ impl fmt::Display for Refusal {
         }
     }
 }
+
+impl Error for PlanRule {}
+
+impl Error for Refusal {}

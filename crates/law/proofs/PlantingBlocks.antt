@@ -10,7 +10,8 @@ use Rattle.tour.specs.Trees.Forest.{none, node}
 use Rattle.tour.specs.Walks.{Within}
 use Rattle.tour.proofs.Lists.{head_same, tail_same}
 use Rattle.places.specs.declared.node.Node.{Node}
-use Rattle.blocks.specs.Taken.{free_from, TakenLaw}
+use Rattle.places.specs.Totals.{free_from}
+use Rattle.blocks.specs.Taken.{TakenLaw}
 use Rattle.law.specs.Handed.{Piece}
 use Rattle.law.specs.Conditions.{TooDeep, is_free}
 use Rattle.law.specs.Calls.{NewTree}

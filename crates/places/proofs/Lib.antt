@@ -8,3 +8,4 @@ pub mod Trees
 pub mod Owing
 pub mod Knowing
 pub mod Counting
+pub mod Checking

@@ -1,12 +1,13 @@
 -- What a sheet shows of a rule.
-use Rattle.std.proofs.Common.{◌≡◌, ℕ, zero, suc, ◌/◌, ◌^◌, ◌<◌, ◌≤◌, false, eqb, List, [], ◌∷◌, length, get_or, Some, None, Decides, Option, refl, ap, ◌∙◌, div-lt_iff_lt-mul, arith, pow_pos, pow_mono, eq-eqb, eqb-true}
-use mathlib.Core.Bool.{false≢true}
+use Rattle.std.proofs.Common.{◌≡◌, ℕ, zero, suc, ◌/◌, ◌^◌, ◌<◌, ◌≤◌, eqb, List, [], ◌∷◌, length, get_or, Some, None, Decides, Option, refl, ap, ◌∙◌, div-lt_iff_lt-mul, arith, pow_pos, pow_mono, eq-eqb, eqb-true}
 use native.Mathlib.Nat.{div-eq_of_lt}
 use Rattle.std.specs.List.{slice_get}
 use Rattle.grammar.specs.Model.{Symbol, Rule, Grammar}
 use Rattle.grammar.specs.Scopes.{Scope, attributes_at, attributes_in}
 use Rattle.tour.specs.Rules.{rule, no_rule, no_symbol}
 use Rattle.places.specs.Places.{attributes}
+use Rattle.places.specs.Shape.{SoundNode, SoundPlace}
+use Rattle.places.specs.declared.node.Node.{Node}
 
 -- an element that stands in a list at a number, and none past its end
 nth_found : {X : Type 0} (xs : List X) (k : ℕ) (x d : X) → Some x ≡ slice_get xs k → (get_or xs k d ≡ x) × (k < length xs)
@@ -48,8 +49,10 @@ shift_tells n m = (
 pub wide_fits : (n m : ℕ) → 16 ≤ n → m < 2 ^ 16 → m < 2 ^ n
 wide_fits n m h l = omega (arith, pow_mono h)
 
-pub refuses : {P : Type 0} → (P → ⊥) → Decides false P
-refuses n = ((λ e. absurd (false≢true e)), λ p. absurd (n p))
+-- a place whose node, if there is one, is sound
+pub sound_place : (g : Grammar) (ps : List (Option Node)) (p : ℕ) (o : Option Node) → ((n : Node) → o ≡ Some n → SoundNode g ps p n) → SoundPlace g ps p o
+sound_place g ps p None h = tt
+sound_place g ps p (Some n) h = h n refl
 
 -- past the table no place is used
 pub used_below : {X : Type 0} (ps : List (Option X)) (p : ℕ) (n : X) → get_or ps p None ≡ Some n → p < length ps

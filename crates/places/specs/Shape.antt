@@ -57,6 +57,11 @@ pub record SoundNode (g : Grammar) (ps : List (Option Node)) (p : ℕ) (n : Node
   -- marks name attributes that exist
   pub marks_there : n.marks < 2 ^ attributes g n.rule
 
+-- what holds at a place p: nothing where it is free
+abbrev pub SoundPlace : Grammar → List (Option Node) → ℕ → Option Node → Type 0
+SoundPlace g ps p None = Unit {0}
+SoundPlace g ps p (Some n) = SoundNode g ps p n
+
 -- the root has the start symbol and no parent
 pub record RootNode (g : Grammar) (n : Node) : Type 0 where
   pub free_standing : n.parent ≡ None

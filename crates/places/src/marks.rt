@@ -2,11 +2,11 @@
 ghost use Rattle.std.specs.Prelude.{◌≡◌, ℕ, ◌<◌, true, false, MatchOption};
 ghost use Rattle.places.specs.Marks.{owes, First, Turned, owed_below};
 
+// Whether an attribute is owed; past the sixteenth none is.
 pub fn is_owed(marks: u16, attribute: u16) -> bool
-    requires { attribute < 16 }
     ensures { result ≡ owes marks attribute }
 {
-    (marks >> attribute) & 1 == 1
+    attribute < 16 && (marks >> attribute) & 1 == 1
 }
 
 pub fn with_owed(marks: u16, attribute: u16) -> u16
@@ -17,21 +17,20 @@ pub fn with_owed(marks: u16, attribute: u16) -> u16
 }
 
 pub fn without_owed(marks: u16, attribute: u16) -> u16
-    requires { attribute < 16 }
     ensures { Turned marks attribute false result }
 {
-    marks & !(1 << attribute)
+    if attribute < 16 {
+        marks & !(1 << attribute)
+    } else {
+        marks
+    }
 }
 
 // The owed attribute of least number.
 pub fn first_owed(marks: u16) -> Option<u16>
     ensures { MatchOption result ((k : ℕ) → owes marks k ≡ false) (λ a. First marks a) }
 {
-    if marks == 0 {
-        None
-    } else {
-        Some(marks.trailing_zeros() as u16)
-    }
+    (marks != 0).then(|| marks.trailing_zeros() as u16)
 }
 
 // How many attributes are owed.

@@ -1,5 +1,5 @@
 // One list for every kind of element, over cells that a caller lends: what was put on last comes off first.
-ghost use Rattle.std.specs.Prelude.{◌≡◌, ◌+◌, ◌-◌, ◌<◌, ◌≤◌, true, false, [], ◌∷◌, ◌++◌, length, MatchOption, nat_lt};
+ghost use Rattle.std.specs.Prelude.{◌≡◌, ◌+◌, ◌-◌, ◌≤◌, IfOk, IfErr, if◌then◌else◌, [], ◌∷◌, ◌++◌, length, MatchOption, nat_lt};
 ghost use Rattle.places.specs.Stack.{stacked};
 
 // A place, and an instruction of its plan.
@@ -25,21 +25,20 @@ impl<'a, T: Copy> Pushdown<'a, T> {
         Pushdown { cells, len: 0 }
     }
 
-    // Puts an element on the list; false where no cell is left.
-    pub fn push(&mut self, x: T) -> bool
-        ensures room { result ≡ nat_lt self.old.len (length self.old.cells.now) }
-        ensures stack { result ≡ true → stacked self.new.cells.now self.new.len ≡ stacked self.old.cells.now self.old.len ++ (x ∷ []) }
-        ensures len { result ≡ true → self.new.len ≡ self.old.len + 1 }
-        ensures full { result ≡ false → (self.new.len ≡ self.old.len) × (self.new.cells.now ≡ self.old.cells.now) }
+    // Puts an element on the list; gives it back where no cell is left.
+    pub fn push(&mut self, x: T) -> Result<(), T>
+        ensures room { result ≡ (if nat_lt self.old.len (length self.old.cells.now) then Ok tt else Err x) }
+        ensures stack { IfOk result (λ _. stacked self.new.cells.now self.new.len ≡ stacked self.old.cells.now self.old.len ++ (x ∷ [])) }
+        ensures len { IfOk result (λ _. self.new.len ≡ self.old.len + 1) }
+        ensures full { IfErr result (λ _. (self.new.len ≡ self.old.len) × (self.new.cells.now ≡ self.old.cells.now)) }
         ensures cells { length self.new.cells.now ≡ length self.old.cells.now }
     {
-        if self.len < self.cells.len() {
-            self.cells[self.len] = x;
-            self.len += 1;
-            true
-        } else {
-            false
+        if self.len == self.cells.len() {
+            return Err(x);
         }
+        self.cells[self.len] = x;
+        self.len += 1;
+        Ok(())
     }
 
     // Takes off the element that was put on last.
@@ -48,22 +47,16 @@ impl<'a, T: Copy> Pushdown<'a, T> {
         ensures cells { self.new.cells.now ≡ self.old.cells.now }
         ensures len { self.new.len ≡ self.old.len - 1 }
     {
-        if self.len == 0 {
-            return None;
-        }
+        let top = self.top()?;
         self.len -= 1;
-        Some(self.cells[self.len])
+        Some(top)
     }
 
     // The element that was put on last.
     pub fn top(&self) -> Option<T>
         ensures { MatchOption result (self.now.len ≡ 0) (λ x. stacked self.now.cells.now self.now.len ≡ stacked self.now.cells.now (self.now.len - 1) ++ (x ∷ [])) }
     {
-        if self.len == 0 {
-            return None;
-        }
         let cells: &[T] = self.cells;
-        let last = self.len - 1;
-        Some(cells[last])
+        cells[..self.len].last().copied()
     }
 }

@@ -16,46 +16,30 @@ pub fn free_places(places: &[Place]) -> usize
 }
 
 fn owed_in(place: Place) -> usize
-    ensures { result ≡ owed_in place }
+    ensures value { result ≡ owed_in place }
+    ensures few { result ≤ 16 }
 {
-    match place {
-        Some(node) => count_owed(node.marks) as usize,
-        None => 0,
-    }
+    place.map_or(0, |node| count_owed(node.marks) as usize)
 }
 
 // How many instances are owed, in the tree and in what is held.
 pub fn owed_total(places: &[Place]) -> usize
     ensures { result ≡ owed_total places.now }
 {
-    let mut owed = 0;
-    for place in places {
-        owed += owed_in(*place);
-    }
-    owed
+    places.iter().map(|place| owed_in(*place)).sum()
 }
 
 fn marks_at(places: &[Place], p: u16) -> u16
     ensures { result ≡ marks_in (at places.now p) }
 {
-    match node_at(places, p) {
-        Some(node) => node.marks,
-        None => 0,
-    }
+    node_at(places, p).map_or(0, |node| node.marks)
 }
 
 // The first owed attribute of a place of the tree.
 fn first_of_place(places: &[Place], root: u16, p: u16) -> Option<u16>
     ensures { MatchOption result (NoneOwedAt places.now root p) (λ a. FirstOfPlace places.now root p a) }
 {
-    let Some(first) = first_owed(marks_at(places, p)) else {
-        return None;
-    };
-    if is_in_tree(places, root, p) {
-        Some(first)
-    } else {
-        None
-    }
+    first_owed(marks_at(places, p)).filter(|_| is_in_tree(places, root, p))
 }
 
 // The first owed instance of the tree, by place and then by attribute.
@@ -63,10 +47,8 @@ pub fn first_owed_in_tree(places: &[Place], root: u16) -> Option<(u16, u16)>
     requires { length places.now ≤ 4096 }
     ensures { MatchOption result (NoneOwed places.now root) (λ x. FirstOfTree places.now root x.0 x.1) }
 {
-    for p in 0..places.len() as u16 {
-        if let Some(attribute) = first_of_place(places, root, p) {
-            return Some((p, attribute));
-        }
-    }
-    None
+    (0..places.len() as u16).find_map(|p| {
+        let attribute = first_of_place(places, root, p)?;
+        Some((p, attribute))
+    })
 }

@@ -3,6 +3,7 @@ ghost use Rattle.std.specs.Prelude.{Some};
 ghost use Rattle.reader.specs.FaultText.{fault_text};
 
 use grammar::Refusal;
+use std::error::Error;
 use std::fmt;
 
 // Lines are counted from 1; line 0 is the text as a whole.
@@ -24,3 +25,5 @@ impl fmt::Display for Fault {
         }
     }
 }
+
+impl Error for Fault {}

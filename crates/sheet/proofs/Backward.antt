@@ -7,7 +7,6 @@ use Rattle.std.proofs.lemmas.Bool.{and_from, le-leb}
 use Rattle.words.specs.Cuts.{parts_at}
 use Rattle.grammar.specs.Model.{Symbol, Equation, Rule, Grammar}
 use Rattle.grammar.specs.declared.refusal.PlanRule.TheVariants.{ReturnsInOrder}
-use Rattle.plans.specs.Groups.{TestsTell}
 use Rattle.lines.specs.LineKinds.{Line}
 use Rattle.lines.specs.LineKinds.Line.{rule_line, set_line, plan_line}
 use Rattle.reader.specs.Steps.{Open, State, nothing, is_empty, allowed, fault_of, after, unless_fault}
@@ -19,7 +18,8 @@ use Rattle.sheet.specs.Meaning.{SoundSymbol, StartSymbol, scope_of_rule, SoundEq
 use Rattle.sheet.proofs.Statements.{kind, Writable, Runs}
 use Rattle.sheet.proofs.Statements.Runs.{done, more}
 use Rattle.sheet.proofs.Texts.{texts_come}
-use Rattle.sheet.proofs.Places.{nth_below, nth_front, nth_at, all_nth}
+use Rattle.std.proofs.lemmas.Option.{slice_get_within}
+use Rattle.sheet.proofs.Places.{nth_front, nth_at, all_nth}
 use Rattle.sheet.proofs.Deciding.{TargetAt, Complete}
 use Rattle.sheet.proofs.Faults.{Starts, symbol_passes, rule_passes, set_passes, plan_passes}
 use Rattle.sheet.proofs.Sofar.{Apart, scope_here, state}
@@ -51,7 +51,7 @@ module _ (all : List Symbol) (few : length all ≤ 32) (start : (s : Symbol) →
 apart_fresh : (before : List Equation) (e : Equation) (rest : List Equation) → Apart (before ++ e ∷ rest) → TargetAt before e.occurrence e.attribute → ⊥
 apart_fresh before e rest apart t =
     let p = apart t.place (length before) t.equation e (nth_front before (e ∷ rest) t.place t.equation t.stands) (nth_at before rest e) t.occurrence_is t.attribute_is in
-    let l = nth_below before t.place t.equation t.stands in
+    let l = slice_get_within before t.place t.equation t.stands in
     omega arith
 
 abbrev opened : ℕ → List ℕ → List Equation → Open
@@ -97,7 +97,7 @@ not_empty : {X : Type 0} (xs : List X) → 1 ≤ length xs → not (is_empty xs)
 not_empty [] h = absurd (omega arith)
 not_empty (x ∷ xs) h = refl
 
-module _ (tells : TestsTell) (ss : List Symbol) (few : length ss ≤ 32) (some : 1 ≤ length ss) (sound : AllByRecursion SoundSymbol ss) where
+module _ (ss : List Symbol) (few : length ss ≤ 32) (some : 1 ≤ length ss) (sound : AllByRecursion SoundSymbol ss) where
   -- the lines of one rule, of which m sets and j instructions are there at the end
   group_run : (rules : List Rule) (r : Rule) (n k m j : ℕ) → SoundRule ss r → length rules < 64 → n + length r.equations ≡ m → m ≤ 512 → k + length r.plan ≡ j → j ≤ 1024 → Runs (state ss rules None n k) (group_of r) (state ss (rules ++ r ∷ []) None m j)
   group_run rules r n k m j h room cm lm cj lj =
@@ -106,7 +106,7 @@ module _ (tells : TestsTell) (ss : List Symbol) (few : length ss ≤ 32) (some :
       (runs_append (map set_line r.equations) (plan_line r.plan ∷ [])
       (sets_run ss sound rules r.left r.right h.few_right r.equations (sound_apart ss r h) k m lm r.equations [] n refl cm h.equations_sound)
       (runs_more (state ss rules (Some (opened r.left r.right r.equations)) m k) (plan_line r.plan) (plan_small (scope_of_rule ss r) sound five r.plan (some_plan ss r h) h.instructions_there) refl
-      (plan_passes tells (scope_of_rule ss r) r.equations k r.plan (record { room = omega arith; instructions_there = h.instructions_there; all_defined = sound_complete ss r h; planned = h.planned }))
+      (plan_passes (scope_of_rule ss r) r.equations k r.plan (record { room = omega arith; instructions_there = h.instructions_there; all_defined = sound_complete ss r h; planned = h.planned }))
       (subst (λ i. Runs (state ss (rules ++ r ∷ []) None m (k + length r.plan)) [] (state ss (rules ++ r ∷ []) None m i)) cj done)))
     where
       five : length (r.left ∷ r.right) ≤ 5
@@ -123,14 +123,14 @@ module _ (tells : TestsTell) (ss : List Symbol) (few : length ss ≤ 32) (some :
       (group_run before r (sets_in before) (instructions_in before) (sets_in (before ++ r ∷ [])) (instructions_in (before ++ r ∷ [])) h.0 (omega arith) (sym (sum_by_push (λ x. length x.equations) before r)) (omega arith) (sym (sum_by_push (λ x. length x.plan) before r)) (omega arith))
       (rules_run all long sets steps rest (before ++ r ∷ []) more-all h.1)
 
-sound_runs : TestsTell → (g : Grammar) → Sound g → Runs nothing (lines_of g) (state g.symbols g.rules None (sets_in g.rules) (instructions_in g.rules))
-sound_runs tells g h =
+sound_runs : (g : Grammar) → Sound g → Runs nothing (lines_of g) (state g.symbols g.rules None (sets_in g.rules) (instructions_in g.rules))
+sound_runs g h =
     runs_append (map symbol_line_of g.symbols) (flat_map group_of g.rules)
     (symbols_run g.symbols h.few_symbols h.start g.symbols [] refl h.symbols_sound)
-    (rules_run tells g.symbols h.few_symbols h.some_symbol h.symbols_sound g.rules h.few_rules h.few_sets h.few_instructions g.rules [] refl h.rules_sound)
+    (rules_run g.symbols h.few_symbols h.some_symbol h.symbols_sound g.rules h.few_rules h.few_sets h.few_instructions g.rules [] refl h.rules_sound)
 
-pub sheet_judged : TestsTell → (text : List ℕ) (g : Grammar) → SheetOf text g → judge text ≡ sheet g
-sheet_judged tells text g h =
+pub sheet_judged : (text : List ℕ) (g : Grammar) → SheetOf text g → judge text ≡ sheet g
+sheet_judged text g h =
     ap (λ b. of_length b text) (and_from (leb 1 (length text)) (leb (length text) 32768) (le-leb 1 (length text) h.some_text) (le-leb (length text) 32768 h.short_text))
     ∙ ap (λ t. judge_from 1 nothing (parts_at 10 t)) h.written
-    ∙ texts_come 1 nothing (lines_of g) _ (sound_runs tells g h.sound) (and_from _ _ (not_empty g.rules h.sound.some_rule) refl)
+    ∙ texts_come 1 nothing (lines_of g) _ (sound_runs g h.sound) (and_from _ _ (not_empty g.rules h.sound.some_rule) refl)

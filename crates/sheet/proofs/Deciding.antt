@@ -1,7 +1,8 @@
 -- What the tests of a line tell, each way.
-use Rattle.std.proofs.Common.{◌≡◌, ℕ, zero, suc, ◌<◌, ◌≤◌, Bool, true, false, not, ◌||◌, eqb, leb, List, [], ◌∷◌, length, is_some as option_is_some, Some, None, Decides, Option, sym, refl, ap, ◌∙◌, subst, arith}
+use Rattle.std.proofs.Common.{◌≡◌, ℕ, zero, suc, ◌<◌, Bool, true, false, not, ◌||◌, eqb, leb, List, [], ◌∷◌, length, is_some as option_is_some, Some, None, Decides, Option, sym, refl, ap, ◌∙◌, subst, arith}
 use Rattle.std.specs.List.{AllByRecursion, slice_get}
 use Rattle.std.proofs.lemmas.Bool.{and_parts, and_from, or_left, or_right, leb-true, le-leb, eqb-true, eq-eqb}
+use Rattle.std.proofs.lemmas.Option.{slice_get_within}
 use Rattle.std.proofs.lemmas.Bool.Decides.{Decides-like, Decides-below_and}
 use Rattle.std.proofs.ByRecursion.{Decides-by_and}
 use Rattle.grammar.specs.Tests.{every, some, every_below, and_then}
@@ -17,7 +18,6 @@ use Rattle.plans.specs.PlanTests.{targets}
 use Rattle.lines.specs.Faults.{has_target, right_visit, complete}
 use Rattle.plans.proofs.Attributes.{takes_decides}
 use Rattle.sheet.specs.Meaning.{Taken, There}
-use Rattle.sheet.proofs.Places.{nth_below}
 
 -- tests over lists
 pub decides_every : {X : Type 0} (p : X → Bool) (P : X → Type 0) → ((x : X) → Decides (p x) (P x)) → (xs : List X) → Decides (every p xs) (AllByRecursion P xs)
@@ -35,9 +35,6 @@ some_there : {X : Type 0} (p : X → Bool) (xs : List X) (k : ℕ) (x : X) → s
 some_there p [] k x e h = absurd (grind arith)
 some_there p (y ∷ xs) zero x e h = let is : y ≡ x = cc in or_left (p y) (some p xs) (ap p is ∙ h)
 some_there p (y ∷ xs) (suc k) x e h = or_right (p y) (some p xs) (some_there p xs k x e h)
-
-pub decides_leb : (a b : ℕ) → Decides (leb a b) (a ≤ b)
-decides_leb a b = (leb-true a b, le-leb a b)
 
 pub every_from : {X : Type 0} (p : X → Bool) (P : X → Type 0) → ((x : X) → P x → p x ≡ true) → (xs : List X) → AllByRecursion P xs → every p xs ≡ true
 every_from p P f [] h = refl
@@ -136,7 +133,7 @@ defined_below σ o a h =
     let s = is_some (attribute_at σ o a) (defined_there σ o a h) in
     let p = placed σ o a s.0 s.1 in
     let at : symbol_at σ o ≡ Some p.symbol = ap (λ n. and_then n (λ y. slice_get σ.symbols y)) p.occurs ∙ p.names in
-    (nth_below σ.occurrences o p.number p.occurs, subst (λ n. a < n) (sym (ap attributes_in at)) (nth_below p.symbol.attributes a s.0 p.has))
+    (slice_get_within σ.occurrences o p.number p.occurs, subst (λ n. a < n) (sym (ap attributes_in at)) (slice_get_within p.symbol.attributes a s.0 p.has))
 
 -- each attribute that the rule defines has an equation
 abbrev pub Complete : Scope → List Equation → Type 0

@@ -12,12 +12,12 @@ use Rattle.grammar.specs.declared.terms.Attribute.{Attribute}
 use Rattle.grammar.specs.declared.terms.Instruction.{Instruction}
 use Rattle.grammar.specs.declared.refusal.Refusal.{Refusal}
 use Rattle.grammar.specs.declared.refusal.Refusal.TheVariants.{Range, Absent, Start, Target, BadArgument, Plan}
-use Rattle.plans.specs.Groups.{TestsTell}
 use Rattle.plans.specs.PlanRules.{Planned}
 use Rattle.plans.specs.PlanTests.{first_broken}
 use Rattle.lines.specs.Faults.{between1, synthesizes, starts, failing, symbol_fault, rule_fault, has_target, set_fault, right_visit, complete, plan_fault}
 use Rattle.sheet.specs.Meaning.{StartSymbol, Taken, There}
-use Rattle.sheet.proofs.Deciding.{decides_leb, decides_every, defined_there, taken_there, decides_taken, every_from, all_there, all_right, all_is, TargetAt, decides_target, Complete, decides_complete}
+use Rattle.plans.proofs.Deciding.{decides_leb}
+use Rattle.sheet.proofs.Deciding.{decides_every, defined_there, taken_there, decides_taken, every_from, all_there, all_right, all_is, TargetAt, decides_target, Complete, decides_complete}
 use Rattle.sheet.proofs.Broken.{planned_from, planned_passes}
 
 failing_none : (t : Bool) (r : Refusal) (later : Option Refusal) → failing t r later ≡ None → (t ≡ true) × (later ≡ None)
@@ -145,7 +145,7 @@ mapped_none : {X Y : Type 0} (f : X → Y) (o : Option X) → option_map f o ≡
 mapped_none f None e = refl
 mapped_none f (Some x) e = absurd (grind arith)
 
-module _ (tells : TestsTell) (σ : Scope) (es : List Equation) (n : ℕ) (is : List Instruction) where
+module _ (σ : Scope) (es : List Equation) (n : ℕ) (is : List Instruction) where
   pub plan_next : failing (leb (n + length is) 1024) Range (plan_fault σ es is) ≡ None → NextPlan σ es n is
   plan_next k =
       let f = failing_none (leb (n + length is) 1024) Range (plan_fault σ es is) k in
@@ -156,7 +156,7 @@ module _ (tells : TestsTell) (σ : Scope) (es : List Equation) (n : ℕ) (is : L
         room = (decides_leb (n + length is) 1024).0 f.0;
         instructions_there = all_there σ is g.0 h.0;
         all_defined = (decides_complete σ es).0 i.0;
-        planned = planned_from tells σ es is (mapped_none Plan (first_broken σ es is) i.1);
+        planned = planned_from σ es is (mapped_none Plan (first_broken σ es is) i.1);
       }
 
   pub plan_passes : NextPlan σ es n is → failing (leb (n + length is) 1024) Range (plan_fault σ es is) ≡ None
@@ -164,4 +164,4 @@ module _ (tells : TestsTell) (σ : Scope) (es : List Equation) (n : ℕ) (is : L
       failing_passes _ Range _ ((decides_leb (n + length is) 1024).1 k.room)
       (failing_passes _ Range _ (all_right σ is k.instructions_there)
       (failing_passes _ Absent _ (all_is σ is k.instructions_there)
-      (failing_passes _ Target _ ((decides_complete σ es).1 k.all_defined) (ap (option_map Plan) (planned_passes tells σ es is k.planned)))))
+      (failing_passes _ Target _ ((decides_complete σ es).1 k.all_defined) (ap (option_map Plan) (planned_passes σ es is k.planned)))))

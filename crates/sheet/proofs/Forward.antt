@@ -5,7 +5,6 @@ use Rattle.std.proofs.lemmas.List.{append-nil}
 use Rattle.std.proofs.lemmas.Bool.{and_parts, leb-true}
 use Rattle.grammar.specs.Model.{Symbol, Rule, Grammar}
 use Rattle.grammar.specs.declared.refusal.Refusal.{Refusal}
-use Rattle.plans.specs.Groups.{TestsTell}
 use Rattle.lines.specs.LineKinds.{Line}
 use Rattle.reader.specs.Steps.{Open, State, nothing, is_empty, fault_of, after, unless_fault, step}
 use Rattle.reader.specs.Steps.Step.{next}
@@ -27,11 +26,11 @@ step_next st l st₁ e = by (fault_of st l) e
     by (Some r) q = absurd (grind arith)
 
 -- lines that are taken one after another keep what holds so far, and are the lines that were read
-pub runs_keep : TestsTell → (st : State) (ls : List Line) (st' : State) → Runs st ls st' → Sofar st → Sofar st' × (lines_in st' ≡ lines_in st ++ ls)
-runs_keep tells st _ _ done h = (h, sym (append-nil (lines_in st)))
-runs_keep tells st _ st' (more {st₁ = st₁} {l = l} {ls = ls} w a t r) h =
+pub runs_keep : (st : State) (ls : List Line) (st' : State) → Runs st ls st' → Sofar st → Sofar st' × (lines_in st' ≡ lines_in st ++ ls)
+runs_keep st _ _ done h = (h, sym (append-nil (lines_in st)))
+runs_keep st _ st' (more {st₁ = st₁} {l = l} {ls = ls} w a t r) h =
     let s = step_next st l st₁ t in
-    let k = runs_keep tells st₁ ls st' r (subst Sofar s.1 (keeps tells st l w a s.0 h)) in
+    let k = runs_keep st₁ ls st' r (subst Sofar s.1 (keeps st l w a s.0 h)) in
     let m = subst (λ x. lines_in x ≡ lines_in st ++ l ∷ []) s.1 (lines_more st l a) in
     (k.0, k.1 ∙ ap (λ x. x ++ ls) m ∙ append_assoc (lines_in st) (l ∷ []) ls)
 
@@ -64,15 +63,15 @@ whole_sound st h w =
       few_instructions = omega arith;
     }
 
-pub judged_sheet : TestsTell → (text : List ℕ) (g : Grammar) → judge text ≡ sheet g → SheetOf text g
-judged_sheet tells text g e = by (long_enough (length text)) refl e
+pub judged_sheet : (text : List ℕ) (g : Grammar) → judge text ≡ sheet g → SheetOf text g
+judged_sheet text g e = by (long_enough (length text)) refl e
   where
     by : (b : Bool) → long_enough (length text) ≡ b → of_length b text ≡ sheet g → SheetOf text g
     by false l q = absurd (grind arith)
     by true l q =
         let p = and_parts (leb 1 (length text)) (leb (length text) 32768) l in
         let t = texts_go_back 1 nothing text g q in
-        let k = runs_keep tells nothing t.lines t.last t.runs sofar_nothing in
+        let k = runs_keep nothing t.lines t.last t.runs sofar_nothing in
         let lines : lines_of (grammar_in t.last) ≡ t.lines = sym (append-nil _) ∙ ap (λ o. lines_of (grammar_in t.last) ++ open_lines o) (sym (whole_is t.last t.ends).1) ∙ k.1 in
         subst (SheetOf text) (sym t.is) (record {
           written = t.written ∙ ap (flat_map ended) (sym lines);

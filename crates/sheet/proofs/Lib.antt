@@ -13,8 +13,6 @@ pub mod Forward
 pub mod Small
 pub mod Backward
 pub mod Refusals
-pub mod Acceptance
-pub mod Sameness
 pub mod Keeping
 pub mod Looking
 pub mod WorkedSheets

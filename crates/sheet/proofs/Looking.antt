@@ -1,10 +1,10 @@
 -- What is read off the tables of a sheet.
-use Rattle.std.proofs.Common.{◌≡◌, ℕ, zero, suc, ◌+◌, ◌-◌, ◌<◌, ◌≤◌, Bool, true, false, eqb, ◌⊎◌, List, [], ◌∷◌, map, length, get_or, take, drop, vec_items, vec_len, MatchBool, sum_by, Option, sym, refl, ap, ◌∙◌, ⊎_elim, arith, length-drop, length-take, Bor}
+use Rattle.std.proofs.Common.{◌≡◌, ℕ, zero, suc, ◌+◌, ◌-◌, ◌<◌, ◌≤◌, Bool, true, false, eqb, ◌⊎◌, List, [], ◌∷◌, map, length, get_or, drop, vec_items, vec_len, MatchBool, sum_by, Option, sym, refl, ap, ◌∙◌, ⊎_elim, arith, length-drop, length-take, Bor}
 use Rattle.std.specs.Option.{option_map}
 use Rattle.std.specs.Slice.{IsGetResult}
 use Rattle.std.specs.List.{slice_get}
 use Rattle.std.proofs.lemmas.List.{length-map}
-use Rattle.std.proofs.lemmas.List.Sums.{sum_by-cons, sum_by_more, sum_by-take-le}
+use Rattle.std.proofs.lemmas.List.Sums.{sum_by-cons}
 use Rattle.std.proofs.lemmas.Bool.{and_parts, eqb-true, eqb-false}
 use Rattle.grammar.specs.Rows.{equation_of}
 use Rattle.grammar.specs.Tests.{every}
@@ -21,12 +21,11 @@ use Rattle.reader.proofs.Spanned.{Within, within}
 use Rattle.sheet.specs.Answers.{size_of}
 use Rattle.sheet.specs.Kept.{empty, read_back}
 use Rattle.sheet.specs.Meaning.{SheetOf, sets_in, instructions_in}
-use Rattle.sheet.specs.Same.{same_grammar}
 use Rattle.sheet.specs.Writing.{write}
 use Rattle.sheet.proofs.Keeping.{empty_or_sheet}
 
 -- where the table of rules is empty the sheet is, and else it was accepted
-pub looked_empty : (t : Tables) (r : Bool) → same_grammar (read_back (grammar_in (state_of t))) (grammar_in (state_of t)) ≡ true → r ≡ eqb (vec_len t.rules) 0 → MatchBool r (grammar_in (state_of t) ≡ empty) (SheetOf (write (grammar_in (state_of t))) (grammar_in (state_of t)))
+pub looked_empty : (t : Tables) (r : Bool) → read_back (grammar_in (state_of t)) ≡ grammar_in (state_of t) → r ≡ eqb (vec_len t.rules) 0 → MatchBool r (grammar_in (state_of t) ≡ empty) (SheetOf (write (grammar_in (state_of t))) (grammar_in (state_of t)))
 looked_empty t r h e = by r (sym e) (empty_or_sheet (grammar_in (state_of t)) h)
   where
     none : (k : grammar_in (state_of t) ≡ empty) → vec_len t.rules ≡ 0
@@ -57,14 +56,6 @@ row_parts t rows i r same l e =
 pub row_rule : (t : Tables) (rows : List RuleRow) (i : ℕ) (o : Option (Bor RuleRow)) → rows ≡ vec_items t.rules → IsGetResult rows i i o → option_map (λ x. rule_of (vec_items t.equations) (vec_items t.plan) x.now) o ≡ slice_get (rules_of t) i
 row_rule t rows i o same h = item_map (rule_of (vec_items t.equations) (vec_items t.plan)) rows i o h ∙ ap (λ l. slice_get (map (rule_of (vec_items t.equations) (vec_items t.plan)) l) i) same
 
--- one row more in a running sum, which stays below its whole
-pub sum_more : (f : RuleRow → ℕ) (rows xs : List RuleRow) (i n : ℕ) (r : RuleRow) → rows ≡ xs → i < length rows → r ≡ get_or rows i r → n ≡ sum_by f (take i xs) → (n + f r ≡ sum_by f (take (i + 1) xs)) × (n + f r ≤ sum_by f xs)
-sum_more f rows xs i n r same l e h =
-    let here : i < length xs = omega (arith, ap length same) in
-    let is : r ≡ get_or xs i r = e ∙ ap (λ k. get_or k i r) same in
-    let sum : n + f r ≡ sum_by f (take (i + 1) xs) = (λ j. h j + f (is j)) ∙ sym (sum_by_more f xs i r here) in
-    (sum, omega (arith, sum, sum_by-take-le f xs (i + 1)))
-
 part_size : {X : Type 0} (s : Span) (xs : List X) (n : ℕ) → n ≡ length xs → Within s n → length (part s xs) ≡ size_of s
 part_size s xs n e w = omega (arith, length-take (s.end - s.start) (drop s.start xs), length-drop s.start xs, w.ordered, w.inside)
 
@@ -91,7 +82,7 @@ pub record Sizes (t : Tables) : Type 0 where
   pub few_sets : sets_in (rules_of t) ≤ 512
   pub few_instructions : instructions_in (rules_of t) ≤ 1024
 
-pub sizes : (t : Tables) → same_grammar (read_back (grammar_in (state_of t))) (grammar_in (state_of t)) ≡ true → Sizes t
+pub sizes : (t : Tables) → read_back (grammar_in (state_of t)) ≡ grammar_in (state_of t) → Sizes t
 sizes t h =
     let p = and_parts (every (row_fits (vec_len t.equations) (vec_len t.plan)) (vec_items t.rules)) (open_fits (vec_len t.equations) t.opened) t.spans in
     let k = rows_sizes (vec_items t.equations) (vec_items t.plan) (vec_len t.equations) (vec_len t.plan) t.equations.ok.0 t.plan.ok.0 (vec_items t.rules) p.0 in

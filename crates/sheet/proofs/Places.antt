@@ -1,11 +1,7 @@
 -- Places in a list.
-use Rattle.std.proofs.Common.{◌≡◌, ℕ, zero, suc, ◌<◌, ◌⊎◌, List, [], ◌∷◌, ◌++◌, length, Some, refl, ap, subst, inl, inr, arith}
+use Rattle.std.proofs.Common.{◌≡◌, ℕ, zero, suc, ◌⊎◌, List, [], ◌∷◌, ◌++◌, length, Some, refl, ap, subst, inl, inr, arith}
 use Rattle.std.specs.List.{AllByRecursion, slice_get}
-
-pub nth_below : {X : Type 0} (xs : List X) (k : ℕ) (x : X) → slice_get xs k ≡ Some x → k < length xs
-nth_below [] k x e = absurd (grind arith)
-nth_below (y ∷ xs) zero x e = omega arith
-nth_below (y ∷ xs) (suc k) x e = let h = nth_below xs k x e in omega arith
+pub use Rattle.std.proofs.lemmas.Option.{slice_get_within as nth_below}
 
 pub nth_front : {X : Type 0} (xs ys : List X) (k : ℕ) (x : X) → slice_get xs k ≡ Some x → slice_get (xs ++ ys) k ≡ Some x
 nth_front [] ys k x e = absurd (grind arith)

@@ -15,8 +15,8 @@ use Rattle.grammar.specs.declared.terms.Instruction.{Instruction}
 use Rattle.grammar.specs.declared.refusal.PlanRule.{PlanRule}
 use Rattle.grammar.specs.declared.refusal.Refusal.{Refusal}
 use Rattle.grammar.specs.declared.refusal.Refusal.TheVariants.{Length, LineForm, Range, Absent, Start, Target, BadArgument, Plan}
-use Rattle.plans.specs.Groups.{TestsTell}
 use Rattle.plans.specs.PlanRules.{FirstBroken}
+use Rattle.plans.proofs.FirstRule.{first_broken_tells}
 use Rattle.plans.specs.PlanTests.{first_broken}
 use Rattle.lines.specs.LineKinds.{Line}
 use Rattle.lines.specs.LineKinds.Line.{symbol_line, rule_line, set_line, plan_line}
@@ -34,7 +34,6 @@ use Rattle.sheet.proofs.Statements.{Runs}
 use Rattle.sheet.proofs.Statements.Runs.{done, more}
 use Rattle.sheet.proofs.Spacing.{joined_at, parts_join, words_joined}
 use Rattle.sheet.proofs.LineForms.{name_of, key_back, parse_back, lines_go_back}
-use Rattle.sheet.proofs.Broken.{first_broken_lem}
 use Rattle.sheet.proofs.Sofar.{grammar_in, open_lines, sofar_nothing, scope_here, state, rule_with}
 use Rattle.sheet.proofs.Forward.{runs_keep}
 
@@ -233,15 +232,15 @@ plan_faulty st (Some q) is p e =
     let d = failing_plan (complete σ q.equations) Target _ p tt c in
     (q, refl, mapped_plan (first_broken σ q.equations is) p d)
 
-pub plan_refused : TestsTell → PlanRefusals
-plan_refused tells text p n e = by (long_enough (length text)) e
+pub plan_refused : PlanRefusals
+plan_refused text p n e = by (long_enough (length text)) e
   where
     by : (b : Bool) → of_length b text ≡ fault_at n (Plan p) → PlanBroken text n p
     by false q = absurd (grind arith)
     by true q =
         let t = subst (λ x. Refused 1 nothing x n p) (parts_join 10 text) (parts_refused 1 nothing (parts_at 10 text) p n q) in
         let f = plan_faulty t.here t.here.opened t.plan p t.faulty in
-        let k = runs_keep tells nothing t.lines t.here t.runs sofar_nothing in
+        let k = runs_keep nothing t.lines t.here t.runs sofar_nothing in
         let before = lines_of (grammar_in t.here) in
         let lines : before ++ group_of (rule_with t.plan f.0) ≡ t.lines ++ plan_line t.plan ∷ [] =
         sym (append_assoc before (open_lines (Some f.0)) (plan_line t.plan ∷ []))
@@ -257,5 +256,5 @@ plan_refused tells text p n e = by (long_enough (length text)) e
               ∙ ap (λ bs. bs ++ t.rest) (flat_map_more ended [] t.lines (plan_line t.plan))
               ∙ ap (λ ls. flat_map ended ls ++ t.rest) (sym lines);
           at_line = let at = t.at_line in omega (arith, ap length lines ∙ length_push t.lines (plan_line t.plan));
-          broken = subst (FirstBroken (scope_here t.here.symbols f.0) f.0.equations t.plan) f.2 (first_broken_lem tells (scope_here t.here.symbols f.0) f.0.equations t.plan);
+          broken = subst (FirstBroken (scope_here t.here.symbols f.0) f.0.equations t.plan) f.2 (first_broken_tells (scope_here t.here.symbols f.0) f.0.equations t.plan);
         }

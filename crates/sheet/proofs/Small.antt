@@ -13,7 +13,8 @@ use Rattle.lines.specs.LineKinds.Line.{symbol_line, rule_line, set_line, plan_li
 use Rattle.plans.proofs.Attributes.{defines_decides}
 use Rattle.sheet.specs.Meaning.{SoundSymbol, Taken, SoundEquation, There}
 use Rattle.sheet.proofs.Statements.{SmallArgument, SmallInstruction, Writable}
-use Rattle.sheet.proofs.Places.{nth_below, all_nth}
+use Rattle.std.proofs.lemmas.Option.{slice_get_within}
+use Rattle.sheet.proofs.Places.{all_nth}
 use Rattle.sheet.proofs.Deciding.{is_some, then_some, defined_there, taken_there, placed}
 
 pub symbol_small : (s : Symbol) → SoundSymbol s → Writable (symbol_line s.visits s.attributes)
@@ -29,8 +30,8 @@ module _ (σ : Scope) (sound : AllByRecursion SoundSymbol σ.symbols) (few : len
   attribute_small o a x e =
       let p = placed σ o a x e in
       let s = all_nth SoundSymbol σ.symbols p.number p.symbol sound p.names in
-      let k = nth_below σ.occurrences o p.number p.occurs in
-      let l = nth_below p.symbol.attributes a x p.has in
+      let k = slice_get_within σ.occurrences o p.number p.occurs in
+      let l = slice_get_within p.symbol.attributes a x p.has in
       (omega arith, omega arith)
 
   visit_small : (o j : ℕ) → 1 ≤ j → j ≤ visits_at σ o → (o < 1000) × (j < 1000)
@@ -41,7 +42,7 @@ module _ (σ : Scope) (sound : AllByRecursion SoundSymbol σ.symbols) (few : len
       by (Some s) e l =
           let p = then_some (slice_get σ.occurrences o) (λ y. slice_get σ.symbols y) s e in
           let q = all_nth SoundSymbol σ.symbols p.0 s sound p.2 in
-          let m = nth_below σ.occurrences o p.0 p.1 in
+          let m = slice_get_within σ.occurrences o p.0 p.1 in
           (omega arith, omega arith)
 
   argument_small : (x : Argument) → Taken σ x → SmallArgument x

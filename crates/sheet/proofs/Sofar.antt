@@ -9,7 +9,6 @@ use Rattle.grammar.specs.Model.{Symbol, Equation, Rule, Grammar}
 use Rattle.grammar.specs.Scopes.{Scope, defines}
 use Rattle.plans.proofs.Attributes.{defines_decides}
 use Rattle.grammar.specs.declared.terms.Instruction.{Instruction}
-use Rattle.plans.specs.Groups.{TestsTell}
 use Rattle.lines.specs.LineKinds.{Line}
 use Rattle.lines.specs.LineKinds.Line.{symbol_line, rule_line, set_line, plan_line}
 use Rattle.reader.specs.Steps.{Open, State, nothing, is_empty, allowed, fault_of, add_to, closed, after}
@@ -207,25 +206,25 @@ keep_plan ss rules o n k is c h = record {
 }
 
 -- a line that is taken keeps all that
-pub keeps : TestsTell → (st : State) (l : Line) → Writable l → allowed st (kind l) ≡ true → fault_of st l ≡ None → Sofar st → Sofar (after st l)
-keeps tells st (symbol_line v xs) w a e h = by st.rules st.opened a h
+pub keeps : (st : State) (l : Line) → Writable l → allowed st (kind l) ≡ true → fault_of st l ≡ None → Sofar st → Sofar (after st l)
+keeps st (symbol_line v xs) w a e h = by st.rules st.opened a h
   where
     by : (rules : List Rule) (o : Option Open) → (is_empty rules && not (is_some o)) ≡ true → Sofar (state st.symbols rules o st.sets st.steps) → Sofar (state (st.symbols ++ record { visits = v; attributes = xs } ∷ []) rules o st.sets st.steps)
     by [] None b k = let s : Symbol = record { visits = v; attributes = xs } in keep_symbol st.symbols st.sets st.steps s w.1 (symbol_next st.symbols s e) k
     by [] (Some o) b k = absurd (grind arith)
     by (r ∷ rules) o b k = absurd (grind arith)
-keeps tells st (rule_line l rs) w a e h = by st.opened a h
+keeps st (rule_line l rs) w a e h = by st.opened a h
   where
     by : (o : Option Open) → (not (is_empty st.symbols) && not (is_some o)) ≡ true → Sofar (state st.symbols st.rules o st.sets st.steps) → Sofar (after st (rule_line l rs))
     by None b k = keep_rule st.symbols st.rules st.sets st.steps l rs w.1 (rule_next (length st.symbols) (length st.rules) l rs e) k
     by (Some o) b k = absurd (grind arith)
-keeps tells st (set_line q) w a e h = by st.opened e h
+keeps st (set_line q) w a e h = by st.opened e h
   where
     by : (o : Option Open) → fault_of (state st.symbols st.rules o st.sets st.steps) (set_line q) ≡ None → Sofar (state st.symbols st.rules o st.sets st.steps) → Sofar (state st.symbols st.rules (option_map (add_to q) o) (st.sets + 1) st.steps)
     by None f k = absurd (grind arith)
     by (Some o) f k = keep_set st.symbols st.rules o st.sets st.steps q w.2 (set_next (scope_here st.symbols o) o.equations st.sets q f) k
-keeps tells st (plan_line is) w a e h = by st.opened e h
+keeps st (plan_line is) w a e h = by st.opened e h
   where
     by : (o : Option Open) → fault_of (state st.symbols st.rules o st.sets st.steps) (plan_line is) ≡ None → Sofar (state st.symbols st.rules o st.sets st.steps) → Sofar (state st.symbols (st.rules ++ closed is o) None st.sets (st.steps + length is))
     by None f k = absurd (grind arith)
-    by (Some o) f k = keep_plan st.symbols st.rules o st.sets st.steps is (plan_next tells (scope_here st.symbols o) o.equations st.steps is f) k
+    by (Some o) f k = keep_plan st.symbols st.rules o st.sets st.steps is (plan_next (scope_here st.symbols o) o.equations st.steps is f) k

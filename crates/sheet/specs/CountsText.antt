@@ -1,5 +1,6 @@
 -- How the counts of a sheet are written.
 use Rattle.std.specs.Prelude.{ℕ, List, ◌++◌, codes, decimal}
+use Rattle.sheet.specs.declared.counts.Counts.{Counts}
 
-abbrev pub counts_text : ℕ → ℕ → ℕ → ℕ → List ℕ
-counts_text symbols rules sets instructions = codes "symbols=" ++ (decimal symbols ++ (codes " rules=" ++ (decimal rules ++ (codes " sets=" ++ (decimal sets ++ (codes " instructions=" ++ decimal instructions))))))
+abbrev pub counts_text : Counts → List ℕ
+counts_text c = codes "symbols=" ++ (decimal c.symbols ++ (codes " rules=" ++ (decimal c.rules ++ (codes " sets=" ++ (decimal c.sets ++ (codes " instructions=" ++ decimal c.instructions))))))

@@ -1,6 +1,5 @@
 pub mod Writing
 pub mod Meaning
-pub mod Same
 pub mod Kept
 pub mod Answers
 pub mod Worked

@@ -13,7 +13,7 @@ pub struct Counts {
 }
 
 impl fmt::Display for Counts {
-    ghost output = { λ c. Some (counts_text c.symbols c.rules c.sets c.instructions) };
+    ghost output = { λ counts. Some (counts_text counts) };
 
     fn fmt<W: fmt::Write>(&self, f: &mut fmt::Formatter<W>) -> fmt::Result {
         let Counts {

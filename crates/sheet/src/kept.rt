@@ -1,8 +1,7 @@
-ghost use Rattle.std.specs.Prelude.{◌≡◌, true};
+ghost use Rattle.std.specs.Prelude.{◌≡◌};
 ghost use Rattle.reader.specs.Judgement.{grammar_in};
 ghost use Rattle.reader.specs.Views.{state_of};
 ghost use Rattle.sheet.specs.Kept.{read_back};
-ghost use Rattle.sheet.specs.Same.{same_grammar};
 
 use reader::Tables;
 
@@ -10,5 +9,5 @@ use reader::Tables;
 #[derive(Drop)]
 pub struct Sheet {
     pub(super) tables: Tables,
-    ghost accepted: { same_grammar (read_back (grammar_in (state_of tables))) (grammar_in (state_of tables)) ≡ true },
+    ghost accepted: { read_back (grammar_in (state_of tables)) ≡ grammar_in (state_of tables) },
 }

@@ -27,10 +27,9 @@ fn part<T>(all: &[T], span: Span) -> &[T]
 }
 
 fn size(span: Span) -> usize
-    requires { span.start ≤ span.end }
     ensures { result ≡ size_of span }
 {
-    span.end - span.start
+    span.end.saturating_sub(span.start)
 }
 
 impl Sheet {
@@ -71,17 +70,12 @@ impl Sheet {
     pub fn counts(&self) -> Counts
         ensures { Counted result (grammar_of self.now) }
     {
-        let mut sets = 0;
-        let mut instructions = 0;
-        for row in self.tables.rules.iter() {
-            sets += size(row.equations);
-            instructions += size(row.plan);
-        }
+        let rules = &self.tables.rules;
         Counts {
             symbols: self.tables.symbols.len(),
-            rules: self.tables.rules.len(),
-            sets,
-            instructions,
+            rules: rules.len(),
+            sets: rules.iter().map(|row| size(row.equations)).sum(),
+            instructions: rules.iter().map(|row| size(row.plan)).sum(),
         }
     }
 }

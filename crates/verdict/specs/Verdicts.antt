@@ -33,7 +33,7 @@ head_text (Ok c) = codes "accepted"
 head_text (Err f) = codes "refused=" ++ decimal (refusal_number f.refusal)
 
 abbrev pub detail_text : Result Counts Fault → List ℕ
-detail_text (Ok c) = counts_text c.symbols c.rules c.sets c.instructions
+detail_text (Ok c) = counts_text c
 detail_text (Err f) = fault_text f
 
 -- one plain sentence about a refusal

@@ -1,8 +1,7 @@
 -- What the code of evaluation has to show.
-use Rattle.std.proofs.Common.{◌≡◌, ℕ, zero, suc, ◌+◌, ◌*◌, ◌<◌, ◌≤◌, Bool, true, false, cond, not, ◌&&◌, eqb, ltb, ◌⊎◌, List, [], ◌∷◌, map, length, get_or, is_some, Some, None, Decides, MatchBool, Option, unwrap_or, sym, refl, ap, ◌∙◌, subst, inl, inr, arith}
+use Rattle.std.proofs.Common.{◌≡◌, ℕ, zero, suc, ◌+◌, ◌*◌, ◌<◌, ◌≤◌, Bool, true, false, cond, not, ◌&&◌, eqb, ltb, ◌⊎◌, List, [], ◌∷◌, map, length, get_or, is_some, Some, None, Decides, MatchBool, MatchOption, Option, Bor, unwrap_or, sym, refl, ap, ap₂, ◌∙◌, subst, find, inl, inr, arith}
 use Rattle.std.specs.Option.{option_map}
 use Rattle.std.specs.List.{slice_get, AllByRecursion}
-use Rattle.std.proofs.lemmas.Option.{slice_get_read}
 use Rattle.std.proofs.lemmas.Bool.{cases_order}
 use Rattle.std.proofs.lemmas.Bool.Decides.{nat_tests}
 use Rattle.std.proofs.ByRecursion.{All-get_or, All-weaker}
@@ -14,52 +13,48 @@ use Rattle.grammar.specs.Tests.{and_then}
 use Rattle.grammar.specs.declared.refusal.PlanRule.TheVariants.{OneEvaluation}
 use Rattle.grammar.specs.declared.terms.Argument.TheVariants.{Datum, Of}
 use Rattle.grammar.specs.declared.terms.Instruction.TheVariants.{Evaluate}
-use Rattle.grammar.proofs.Elements.{nth_map}
-use Rattle.places.specs.Places.{used, table, value_at}
+use Rattle.places.specs.Places.{at, used, table, cell_of, value_at}
 use Rattle.places.specs.Shape.{SoundPlaces}
 use Rattle.places.specs.declared.node.Node.{Node}
 use Rattle.sheet.specs.Meaning.{SoundRule, SoundEquation, Taken, scope_of_rule}
 use Rattle.sheet.proofs.Places.{nth_below}
 use Rattle.grammar.specs.declared.terms.Argument.{Argument}
-use Rattle.tour.specs.Nodes.{Table}
-use Rattle.tour.specs.Results.{Meaning, equation}
+use Rattle.tour.specs.Results.{Meaning, worth, applied, equation}
 use Rattle.tour.specs.Rules.{rule, no_rule}
 use Rattle.tour.specs.Runs.{In}
-use Rattle.tour.specs.Trees.{Instance}
-use Rattle.walk.specs.Evaluation.{NamedIn, NamedIf, given_by, argument_by, NoEquation, equations_at}
+use Rattle.tour.specs.Trees.{Instance, at_of}
+use Rattle.walk.specs.Evaluation.{NamedIn, given_by, argument_by, result_by, NoEquation, equations_at}
 use Rattle.sheet.specs.Meaning.{Sound}
 use Rattle.walk.specs.Walking.{Meeting}
 use Rattle.walk.specs.declared.walker.Met.{Met}
+use Rattle.walk.proofs.Looking.{occurrence_at}
 use Rattle.walk.proofs.Naming.{rule_used, kids_right, occurrence_used, evaluate_names}
 
--- no equation before number n is for that attribute
-abbrev pub NoneBefore : ℕ → ℕ → ℕ → List Equation → Type 0
-NoneBefore n o a qs = (k : ℕ) (q : Equation) → k < n → slice_get qs k ≡ Some q → q.occurrence ≡ o → q.attribute ≡ a → ⊥
+-- the test by which the code looks for an equation finds the first that is for that attribute
+abbrev pub is_for : ℕ → ℕ → EquationRow → Bool
+is_for o a e = eqb e.occurrence o && eqb e.attribute a
 
-pub row_nth : (es : List EquationRow) (i : ℕ) (x : EquationRow) → i < length es → x ≡ get_or es i x → slice_get (map equation_of es) i ≡ Some (equation_of x)
-row_nth es i x h e = nth_map equation_of es i ∙ ap (option_map equation_of) (slice_get_read es (length es) i x refl h e)
-
-one_of : (o : Option Equation) (p q : Equation) → o ≡ Some p → o ≡ Some q → p ≡ q
-one_of o p q e f = cc
-
-pub none_more : (n o a : ℕ) (qs : List Equation) (x : Equation) → NoneBefore n o a qs → slice_get qs n ≡ Some x → (x.occurrence ≡ o → x.attribute ≡ a → ⊥) → NoneBefore (n + 1) o a qs
-none_more n o a qs x h e away k q l f p r = by (cases_order k n)
+equation_found : (o a : ℕ) (es : List EquationRow) (e : EquationRow) → find (is_for o a) es ≡ Some e → equation o a (map equation_of es) ≡ equation_of e
+equation_found o a [] e f = let z : ◌≡◌ {A = ℕ} 0 1 = cc in absurd (omega arith)
+equation_found o a (x ∷ es) e f = by (is_for o a x) (equation_found o a es e) f
   where
-    by : (k ≡ n) ⊎ ((k < n) ⊎ (n < k)) → ⊥
-    by (inl s) = let i = one_of (slice_get qs n) x q e (ap (slice_get qs) (sym s) ∙ f) in away (ap (λ z. z.occurrence) i ∙ p) (ap (λ z. z.attribute) i ∙ r)
-    by (inr (inl s)) = h k q s f p r
-    by (inr (inr s)) = omega arith
+    by : (b : Bool) → (find (is_for o a) es ≡ Some e → equation o a (map equation_of es) ≡ equation_of e) → cond b (Some x) (find (is_for o a) es) ≡ Some e → cond b (equation_of x) (equation o a (map equation_of es)) ≡ equation_of e
+    by true later h = let i : x ≡ e = cc in ap equation_of i
+    by false later h = later h
 
--- the first that is for it is the equation
-pub equation_first : (qs : List Equation) (n o a : ℕ) (x : Equation) → NoneBefore n o a qs → slice_get qs n ≡ Some x → x.occurrence ≡ o → x.attribute ≡ a → equation o a qs ≡ x
-equation_first [] n o a x h e p r = let z : ◌≡◌ {A = ℕ} 0 1 = cc in absurd (omega arith)
-equation_first (y ∷ qs) zero o a x h e p r = let i : y ≡ x = cc in let j : y.occurrence ≡ o = cc in let k : y.attribute ≡ a = cc in let t : (eqb y.occurrence o && eqb y.attribute a) ≡ true = grind (arith, nat_tests) in ap (λ b. cond b y (equation o a qs)) t ∙ i
-equation_first (y ∷ qs) (suc n) o a x h e p r =
-    let t : (eqb y.occurrence o && eqb y.attribute a) ≡ false = by y.occurrence y.attribute (h 0 y (omega arith) refl) in
-    ap (λ b. cond b y (equation o a qs)) t ∙ equation_first qs n o a x (λ k q l. h (suc k) q (omega arith)) e p r
+equation_missing : (o a : ℕ) (es : List EquationRow) → find (is_for o a) es ≡ None → NoEquation o a (map equation_of es)
+equation_missing o a [] f k q e p r = let z : ◌≡◌ {A = ℕ} 0 1 = cc in absurd (omega arith)
+equation_missing o a (x ∷ es) f k q e p r = by (is_for o a x) refl f k e (λ h j d. equation_missing o a es h j q d p r)
   where
-    by : (u v : ℕ) → (u ≡ o → v ≡ a → ⊥) → (eqb u o && eqb v a) ≡ false
-    by u v f = grind (arith, nat_tests)
+    by : (b : Bool) → is_for o a x ≡ b → cond b (Some x) (find (is_for o a) es) ≡ None → (k : ℕ) → slice_get (equation_of x ∷ map equation_of es) k ≡ Some q
+        → (find (is_for o a) es ≡ None → (j : ℕ) → slice_get (map equation_of es) j ≡ Some q → ⊥) → ⊥
+    by true t h k e later = let z : ◌≡◌ {A = ℕ} 0 1 = cc in omega arith
+    by false t h zero e later = let i : equation_of x ≡ q = cc in let u : x.occurrence ≡ o = ap (λ z. z.occurrence) i ∙ p in let v : x.attribute ≡ a = ap (λ z. z.attribute) i ∙ r in grind (arith, nat_tests)
+    by false t h (suc k) e later = later h k e
+
+pub equation_looked : (o a : ℕ) (es : List EquationRow) (r : Option (Bor EquationRow)) → option_map (λ x. x.now) r ≡ find (is_for o a) es → MatchOption r (NoEquation o a (map equation_of es)) (λ e. equation o a (map equation_of es) ≡ equation_of e.now)
+equation_looked o a es None e = equation_missing o a es (sym e)
+equation_looked o a es (Some x) e = equation_found o a es x.now (sym e)
 
 pub read_nth : {X : Type 0} (xs : List X) (i : ℕ) (d : X) → unwrap_or (slice_get xs i) d ≡ get_or xs i d
 read_nth [] i d = refl
@@ -70,18 +65,23 @@ read_nth (x ∷ xs) (suc i) d = read_nth xs i d
 pub value_kept : {V : Type 0} (missing : V) (vs : List V) (p a : ℕ) → a < 16 → value_at missing vs (p, a) ≡ get_or vs (16 * p + a) missing
 value_kept missing vs p a h = let t : ltb a 16 ≡ true = grind (arith, nat_tests) in ap (λ b. cond b (get_or vs (16 * p + a) missing) missing) t
 
-pub named_nth : (n : ℕ) (xs : List Argument) (i : ℕ) (o : Option Argument) → o ≡ slice_get xs i → AllByRecursion (NamedIn n) xs → NamedIf n o
-named_nth n xs i o e h = subst (NamedIf n) (sym e) (at xs i h)
-  where
-    at : (xs : List Argument) (i : ℕ) → AllByRecursion (NamedIn n) xs → NamedIf n (slice_get xs i)
-    at [] i h = tt
-    at (x ∷ xs) zero h = h.0
-    at (x ∷ xs) (suc i) h = at xs i h.1
+pub given_nth : {V : Type 0} (M : Meaning V) (at : ℕ → ℕ) (code : ℕ) (v : Instance → V) (xs : List Argument) (i : ℕ) → given_by M at code v (slice_get xs i) ≡ argument_by M at code v xs i
+given_nth M at code v [] i = refl
+given_nth M at code v (x ∷ xs) zero = refl
+given_nth M at code v (x ∷ xs) (suc i) = given_nth M at code v xs i
 
-pub given_nth : {V : Type 0} (M : Meaning V) (T : Table) (p : ℕ) (v : Instance → V) (xs : List Argument) (i : ℕ) → given_by M T p v (slice_get xs i) ≡ argument_by M T p v xs i
-given_nth M T p v [] i = refl
-given_nth M T p v (x ∷ xs) zero = refl
-given_nth M T p v (x ∷ xs) (suc i) = given_nth M T p v xs i
+-- what the node at a place says of occurrences that are there is what the table shows of them
+module _ {V : Type 0} (M : Meaning V) (g : Grammar) (ps : List (Option Node)) (p : ℕ) (n : Node) (there : at ps p ≡ Some n) (v : Instance → V) where
+  worth_here : (x : Argument) → NamedIn (length (table g ps p).kids) x → worth M (at_of p n.children) n.datum v x ≡ worth M (at_of p (table g ps p).kids) (table g ps p).code v x
+  worth_here Datum h = ap (λ o. M.leaf (cell_of g o).code) (sym there)
+  worth_here (Of o b) h = ap (λ q. v (q, b)) (occurrence_at g ps p n there o h)
+
+  worths_here : (xs : List Argument) → AllByRecursion (NamedIn (length (table g ps p).kids)) xs → map (worth M (at_of p n.children) n.datum v) xs ≡ map (worth M (at_of p (table g ps p).kids) (table g ps p).code v) xs
+  worths_here [] h = refl
+  worths_here (x ∷ xs) h = ap₂ (λ y ys. y ∷ ys) (worth_here x h.0) (worths_here xs h.1)
+
+  pub result_here : (q : Equation) → AllByRecursion (NamedIn (length (table g ps p).kids)) q.arguments → result_by M (at_of p n.children) n.datum v q ≡ result_by M (at_of p (table g ps p).kids) (table g ps p).code v q
+  result_here q h = ap (λ ws. applied M q.function ws) (worths_here q.arguments h)
 
 pub never_true : true ≡ false → ⊥
 never_true e = let z : ◌≡◌ {A = ℕ} 0 1 = cc in omega arith
@@ -103,10 +103,6 @@ taken_named ss ρ (Of (suc k) b) h = by (slice_get ρ.right k) refl
     by : (o : Option ℕ) → slice_get ρ.right k ≡ o → suc k ≤ length ρ.right
     by None e = let f = ap (λ o. and_then (and_then o (λ y. slice_get ss y)) (λ s. slice_get s.attributes b)) (sym e) ∙ h.1 in let z : ◌≡◌ {A = ℕ} 0 1 = cc in absurd (omega arith)
     by (Some y) e = nth_below ρ.right k y e
-
-named_weaker : (n m : ℕ) → n ≤ m → (x : Argument) → NamedIn n x → NamedIn m x
-named_weaker n m l Datum h = tt
-named_weaker n m l (Of o b) h = omega arith
 
 equation_named : (n o a : ℕ) (qs : List Equation) → AllByRecursion (λ q. AllByRecursion (NamedIn n) q.arguments) qs → AllByRecursion (NamedIn n) (equation o a qs).arguments
 equation_named n o a [] h = tt
@@ -133,7 +129,6 @@ pub record Ready (g : Grammar) (ps : List (Option Node)) (m : Met) : Type 0 wher
   -- its equation is there, and takes from occurrences that are there
   pub equation_there : NoEquation m.occurrence m.attribute (equations_at g (table g ps) m.rule_place) → ⊥
   pub named : AllByRecursion (NamedIn (length (table g ps m.rule_place).kids)) (equation m.occurrence m.attribute (equations_at g (table g ps) m.rule_place)).arguments
-  pub few : AllByRecursion (NamedIn 4) (equation m.occurrence m.attribute (equations_at g (table g ps) m.rule_place)).arguments
   pub attribute_small : m.attribute < 16
   pub place_there : m.place < length ps
 
@@ -153,7 +148,6 @@ ready g ps m w so e =
     record {
       equation_there = λ h. h only.0 only.1.equation only.1.stands only.1.occurrence_is only.1.attribute_is;
       named = subst (λ n. AllByRecursion (NamedIn n) (equation m.occurrence m.attribute ρ.equations).arguments) (sym (kids_right g ps p e.rule_place_used)) named;
-      few = All-weaker (NamedIn (length ρ.right)) (NamedIn 4) (named_weaker (length ρ.right) 4 sr.few_right) (equation m.occurrence m.attribute ρ.equations).arguments named;
       attribute_small = names.1;
       place_there = used_within ps m.place (subst (λ q. used ps q ≡ true) (sym e.place_is) (occurrence_used g ps p m.occurrence so e.rule_place_used names.0));
     }

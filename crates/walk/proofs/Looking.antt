@@ -1,5 +1,5 @@
 -- What is read off the sheet and the places.
-use Rattle.std.proofs.Common.{◌≡◌, ℕ, zero, suc, ◌-◌, ◌<◌, ◌≤◌, List, [], ◌∷◌, length, get_or, drop, Some, None, Option, unwrap_or, sym, refl, ap, ◌∙◌, one-add, arith}
+use Rattle.std.proofs.Common.{◌≡◌, ℕ, zero, suc, ◌<◌, ◌≤◌, List, [], ◌∷◌, length, get_or, drop, Some, None, Option, unwrap_or, sym, refl, ap, ◌∙◌, one-add, arith}
 use Rattle.std.specs.Option.{option_map}
 use Rattle.std.specs.List.{slice_get}
 use Rattle.std.proofs.lemmas.List.{get_or-drop}
@@ -44,9 +44,10 @@ child_at g ps p n e k h = ap (λ o. get_or (cell_of g o).kids k 0) e ∙ firsts_
 pub kids_count : (g : Grammar) (ps : List (Option Node)) (p : ℕ) (n : Node) → at ps p ≡ Some n → length (table g ps p).kids ≡ arity g n.rule
 kids_count g ps p n e = ap (λ o. length (cell_of g o).kids) e ∙ length_firsts (arity g n.rule) n.children
 
-pub occurrence_at : (g : Grammar) (ps : List (Option Node)) (p : ℕ) (n : Node) → at ps p ≡ Some n → (o : ℕ) → 1 ≤ o → o ≤ length (table g ps p).kids → get_or n.children (o - 1) 0 ≡ at_of p (table g ps p).kids o
-occurrence_at g ps p n e zero h l = absurd (omega arith)
-occurrence_at g ps p n e (suc k) h l = ap (λ z. get_or n.children z 0) (omega arith) ∙ sym (child_at g ps p n e k (omega (arith, kids_count g ps p n e)))
+-- and an occurrence that is there
+pub occurrence_at : (g : Grammar) (ps : List (Option Node)) (p : ℕ) (n : Node) → at ps p ≡ Some n → (o : ℕ) → o ≤ length (table g ps p).kids → at_of p n.children o ≡ at_of p (table g ps p).kids o
+occurrence_at g ps p n e zero l = refl
+occurrence_at g ps p n e (suc k) l = sym (child_at g ps p n e k (omega (arith, kids_count g ps p n e)))
 
 pub equations_of : (g : Grammar) (ps : List (Option Node)) (p : ℕ) (n : Node) → at ps p ≡ Some n → (rule g (table g ps p).rule).equations ≡ (rule g n.rule).equations
 equations_of g ps p n e = ap (λ o. (rule g (cell_of g o).rule).equations) e

@@ -1,5 +1,5 @@
 -- What evaluation reads and gives.
-use Rattle.std.specs.Prelude.{◌≡◌, ℕ, ◌≤◌, Bool, true, List, map, Some, None, Option, ◌≢◌, slice_index_or}
+use Rattle.std.specs.Prelude.{◌≡◌, ℕ, ◌≤◌, Bool, true, List, map, Some, Option, ◌≢◌, slice_index_or}
 use Rattle.std.specs.Option.{unwrap_or, option_map}
 use Rattle.std.specs.List.{slice_get}
 use Rattle.grammar.specs.Model.{Grammar, Equation}
@@ -8,7 +8,7 @@ use Rattle.grammar.specs.declared.terms.Argument.TheVariants.{Datum, Of}
 use Rattle.tour.specs.Nodes.{Table}
 use Rattle.tour.specs.Results.{Meaning, worth, applied, result}
 use Rattle.tour.specs.Rules.{rule}
-use Rattle.tour.specs.Trees.{Instance, at_of}
+use Rattle.tour.specs.Trees.{Instance}
 
 abbrev pub meaning_of : {V : Type 0} → (ℕ → V) → (ℕ → V → V → V → V) → Meaning V
 meaning_of leafs results = record { leaf = leafs; result = results }
@@ -18,25 +18,22 @@ abbrev pub NamedIn : ℕ → Argument → Type 0
 NamedIn n Datum = Unit {0}
 NamedIn n (Of o b) = o ≤ n
 
-abbrev pub NamedIf : ℕ → Option Argument → Type 0
-NamedIf n None = Unit {0}
-NamedIf n (Some x) = NamedIn n x
-
--- the value of an argument of the rule at a place, the leaf of 0 where there is none
-abbrev pub given_by : {V : Type 0} → Meaning V → Table → ℕ → (Instance → V) → Option Argument → V
-given_by M T p v x = unwrap_or (option_map (worth M (at_of p (T p).kids) (T p).code v) x) (M.leaf 0)
+-- the value of an argument, by the places of the occurrences of its rule and the code of the datum; the leaf of 0 where
+-- there is none
+abbrev pub given_by : {V : Type 0} → Meaning V → (ℕ → ℕ) → ℕ → (Instance → V) → Option Argument → V
+given_by M at code v x = unwrap_or (option_map (worth M at code v) x) (M.leaf 0)
 
 -- no equation is for that attribute of that occurrence
 abbrev pub NoEquation : ℕ → ℕ → List Equation → Type 0
 NoEquation o a qs = (k : ℕ) (q : Equation) → slice_get qs k ≡ Some q → q.occurrence ≡ o → q.attribute ≢ a
 
 -- the value of one of its arguments
-abbrev pub argument_by : {V : Type 0} → Meaning V → Table → ℕ → (Instance → V) → List Argument → ℕ → V
-argument_by M T p v xs i = slice_index_or (map (worth M (at_of p (T p).kids) (T p).code v) xs) i (M.leaf 0)
+abbrev pub argument_by : {V : Type 0} → Meaning V → (ℕ → ℕ) → ℕ → (Instance → V) → List Argument → ℕ → V
+argument_by M at code v xs i = slice_index_or (map (worth M at code v) xs) i (M.leaf 0)
 
--- what an equation of the rule at a place gives
-abbrev pub result_by : {V : Type 0} → Meaning V → Table → ℕ → (Instance → V) → Equation → V
-result_by M T p v q = applied M q.function (map (worth M (at_of p (T p).kids) (T p).code v) q.arguments)
+-- what an equation gives
+abbrev pub result_by : {V : Type 0} → Meaning V → (ℕ → ℕ) → ℕ → (Instance → V) → Equation → V
+result_by M at code v q = applied M q.function (map (worth M at code v) q.arguments)
 
 -- the equations of the rule at a place
 abbrev pub equations_at : Grammar → Table → ℕ → List Equation

@@ -10,22 +10,20 @@ ghost use Rattle.walk.specs.Stands.{stand_of};
 ghost use Rattle.sheet.specs.Meaning.{Sound};
 ghost use Rattle.walk.specs.Walking.{Walking, Started, Reached, Ended, OwedNext, NoneOwed};
 
-use super::look::node_at;
 use super::walker::{Met, Mode, Walk};
-use places::{Frame, Node, Place, Pushdown, is_owed};
+use places::{Frame, Node, Place, Pushdown, is_owed, node_at};
 use sheet::Sheet;
 
 // Whether an instance that a walk met is owed.
+#[tactic(auto, using(crate::proofs::Going::none_owes))]
 pub fn is_due(places: &[Place], met: Met) -> bool
     requires { met.attribute < 16 }
     ensures { result ≡ owed_at places.now (instance_of met) }
 {
-    match node_at(places, met.place) {
-        Some(node) => is_owed(node.marks, met.attribute),
-        None => false,
-    }
+    node_at(places, met.place).is_some_and(|node| is_owed(node.marks, met.attribute))
 }
 
+// The table may change between two calls, so that a walk is under way in it is asked of each call and not kept in the walk.
 impl<'p, 'c> Walk<'p, 'c> {
     // A walk before the first instruction of the plan at the root.
     pub fn start(root: u16, frames: &'p mut Pushdown<'c, Frame>) -> Walk<'p, 'c>

@@ -11,5 +11,5 @@ mod walker;
 pub use along::is_due;
 pub use evaluation::{evaluate, value_at};
 pub use laws::{marks_are_passed, moves_stand, one_walk_finds};
-pub use look::{instruction_at, node_at, occurrence_place};
+pub use look::instruction_at;
 pub use walker::{Met, Mode, Walk};

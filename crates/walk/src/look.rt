@@ -8,14 +8,8 @@ ghost use Rattle.tour.specs.Trees.{at_of};
 ghost use Rattle.tour.specs.Walks.{plan_at};
 
 use grammar::Instruction;
-use places::Place;
+use places::{Place, node_at};
 use sheet::Sheet;
-
-pub fn node_at(places: &[Place], place: u16) -> Place
-    ensures { result ≡ at places.now place }
-{
-    *places.get(usize::from(place))?
-}
 
 // An instruction of the plan of the rule at a place.
 pub fn instruction_at(
@@ -30,16 +24,4 @@ pub fn instruction_at(
     let node = node_at(places, place)?;
     let group = sheet.rule(usize::from(node.rule))?;
     group.plan.get(usize::from(number)).copied()
-}
-
-// Where an occurrence of the rule at a place stands: occurrence 0 at that place, the others at its children.
-pub fn occurrence_place(places: &[Place], place: u16, occurrence: u16) -> u16
-    requires there { used places.now place ≡ true }
-    requires few { occurrence ≤ 4 }
-    ensures { (g : Grammar) → occurrence ≤ length (table g places.now place).kids → result ≡ at_of place (table g places.now place).kids occurrence }
-{
-    match (occurrence, node_at(places, place)) {
-        (0, _) | (_, None) => place,
-        (child, Some(node)) => node.children[usize::from(child) - 1],
-    }
 }

@@ -6,10 +6,10 @@ ghost use Rattle.walk.specs.Moves.{passing, inside, left, moved, meets};
 ghost use Rattle.walk.specs.Stands.{stand_of};
 ghost use Rattle.walk.specs.Walking.{Walking, at_end};
 
-use super::look::{instruction_at, occurrence_place};
+use super::look::instruction_at;
 use super::walker::{Met, Mode, Walk};
 use grammar::Instruction;
-use places::{Frame, Place};
+use places::{Frame, Place, node_at};
 use sheet::Sheet;
 
 // The mode in which so many returns are still to be passed.
@@ -27,10 +27,7 @@ impl<'p, 'c> Walk<'p, 'c> {
     pub fn is_done(&self) -> bool
         ensures { result ≡ at_end self.now.mode }
     {
-        match self.mode {
-            Mode::Done => true,
-            _ => false,
-        }
+        self.mode == Mode::Done
     }
 
     // Out of a visit: back to where it began, or to the end.
@@ -68,6 +65,7 @@ impl<'p, 'c> Walk<'p, 'c> {
         ensures stand { stand_of self.new ≡ moved (grammar_of sheet.now) (table (grammar_of sheet.now) places.now) (stand_of self.old) }
         ensures met { result ≡ meets (grammar_of sheet.now) (table (grammar_of sheet.now) places.now) (stand_of self.old) }
     {
+        let node = node_at(places, self.place)?;
         let instruction = instruction_at(sheet, places, self.place, self.next)?;
         match (self.mode, instruction) {
             (Mode::InPlan, Instruction::Evaluate(occurrence, attribute)) => {
@@ -76,11 +74,11 @@ impl<'p, 'c> Walk<'p, 'c> {
                     rule_place: self.place,
                     occurrence,
                     attribute,
-                    place: occurrence_place(places, self.place, occurrence),
+                    place: node.occurrence_place(self.place, occurrence),
                 });
             }
             (Mode::InPlan, Instruction::Visit(occurrence, visit)) => {
-                let child = occurrence_place(places, self.place, occurrence);
+                let child = node.occurrence_place(self.place, occurrence);
                 self.enter(child, visit);
             }
             (Mode::InPlan, Instruction::Return(_)) => self.leave(),

@@ -3,7 +3,7 @@ use places::{Frame, Pushdown};
 
 // Listing what its plan says; looking for the segment of a visit, so many returns ahead; back at the visit that it went
 // through; or at the end.
-#[derive(Clone, Copy)]
+#[derive(Clone, Copy, Debug, PartialEq, Eq)]
 pub enum Mode {
     InPlan,
     Entering(u16),
@@ -12,7 +12,7 @@ pub enum Mode {
 }
 
 // An instance that a walk met: an attribute of an occurrence of the rule at a place, and the place of that occurrence.
-#[derive(Clone, Copy)]
+#[derive(Clone, Copy, Debug, PartialEq, Eq)]
 pub struct Met {
     pub rule_place: u16,
     pub occurrence: u16,

@@ -2,7 +2,8 @@ use Rattle.std.proofs.Common.{◌+◌, [], ◌∷◌, drop, sym, ap, ◌∙◌, 
 use Rattle.sheet.specs.Answers.{grammar_of}
 use Rattle.blocks.specs.Block.{own_symbol}
 use Rattle.blocks.specs.Blank.{blanked}
-use Rattle.blocks.specs.Taken.{free, free_after}
+use Rattle.places.specs.Totals.{free}
+use Rattle.blocks.specs.Taken.{free_after}
 use Rattle.blocks.proofs.Values.{reads_known, blanked_nowhere, blanked_step, blanked_end, blanked_taken}
 use Rattle.blocks.proofs.Entries.{blanked_trees}
 use Rattle.blocks.proofs.Writing.{judged_sound}

@@ -1,7 +1,8 @@
 use Rattle.std.proofs.Common.{◌≡◌, drop}
 use Rattle.sheet.specs.Answers.{grammar_of}
 use Rattle.blocks.specs.Blank.{blanked}
-use Rattle.blocks.specs.Taken.{free, free_after}
+use Rattle.places.specs.Totals.{free}
+use Rattle.blocks.specs.Taken.{free_after}
 use Rattle.blocks.proofs.blanking.blank_values.Given as goal
 
 abbrev pub invariant-loop-piece : goal.invariant-loop-piece

@@ -1,6 +1,7 @@
 use Rattle.std.proofs.Common.{ap, sym, ◌∙◌, position}
 use Rattle.std.proofs.lemmas.List.{take_rest}
-use Rattle.blocks.proofs.Free.{is_free, free_at, free_nowhere}
+use Rattle.places.specs.Totals.{is_free}
+use Rattle.blocks.proofs.Free.{free_at, free_nowhere}
 use Rattle.blocks.proofs.Fronts.{none_case}
 use Rattle.blocks.proofs.finding.first_free.Goals as goal
 

@@ -2,8 +2,9 @@ use Rattle.std.proofs.Common.{Some, sym, ap, ◌∙◌, arith}
 use Rattle.sheet.specs.Answers.{grammar_of}
 use Rattle.walk.specs.Stands.{stand_of}
 use Rattle.walk.proofs.Advancing.{next_small, VisitHere, visit_here, EvaluateHere, evaluate_here, moved_evaluate, met_evaluate, moved_visit, met_visit}
+use Rattle.walk.proofs.Looking.{occurrence_at}
 use Rattle.walk.proofs.walker.Walk.advance.Goals as goal
-use Rattle.walk.proofs.walker.Walk.advance.Goals.{In-InPlan-Evaluate, In-InPlan-Visit, at-occurrence_place-requires, at-returns-in-InPlan-Evaluate, at-enter-requires, at-returns-in-InPlan-Visit}
+use Rattle.walk.proofs.walker.Walk.advance.Goals.{In-InPlan-Evaluate, In-InPlan-Visit, at-returns-in-InPlan-Evaluate, at-enter-requires, at-returns-in-InPlan-Visit}
 
 pub overflow_add-self : goal.overflow_add-self
 overflow_add-self c = omega (arith, next_small _ _ _ c.requires)
@@ -24,9 +25,6 @@ evaluates c = evaluate_here _ _ _ _ _ c.requires (sym c.instruction_at.ensures �
 visits : (c : In-InPlan-Visit) → VisitHere (grammar_of c.args.sheet.now) c.args.places.now (stand_of c.args.self.now) c.in-InPlan-Visit.occurrence c.in-InPlan-Visit.visit
 visits c = visit_here _ _ _ _ _ c.requires (sym c.instruction_at.ensures ∙ c.in_ok-instruction.was ∙ ap Some c.in-InPlan-Visit.is-1)
 
-pub occurrence_place-requires : goal.occurrence_place-requires
-occurrence_place-requires c = record { there = c.requires.place_used; few = (evaluates (at-occurrence_place-requires c).In-InPlan-Evaluate).few }
-
 pub returns-in-InPlan-Evaluate : goal.returns-in-InPlan-Evaluate
 returns-in-InPlan-Evaluate c =
     let g = grammar_of c.args.sheet.now in
@@ -34,11 +32,8 @@ returns-in-InPlan-Evaluate c =
     let h = evaluates (at-returns-in-InPlan-Evaluate c).In-InPlan-Evaluate in
     record {
       stand = moved_evaluate g c.args.places.now s _ _ c.in-InPlan-Evaluate.is-0 h.stands;
-      met = met_evaluate g c.args.places.now s _ _ _ c.in-InPlan-Evaluate.is-0 h.stands (c.occurrence_place.ensures g h.there);
+      met = met_evaluate g c.args.places.now s _ _ _ c.in-InPlan-Evaluate.is-0 h.stands (c.occurrence_place.ensures ∙ occurrence_at g c.args.places.now s.place c.in_ok-node.node (sym c.node_at.ensures ∙ c.in_ok-node.was) _ h.there);
     }
-
-pub occurrence_place-child-requires : goal.occurrence_place-child-requires
-occurrence_place-child-requires c = record { there = c.requires.place_used; few = (visits c).few }
 
 pub enter-requires : goal.enter-requires
 enter-requires c = record { room = omega (arith, c.requires.few_frames, c.requires.enough_room); first = (visits (at-enter-requires c).In-InPlan-Visit).first }
@@ -49,6 +44,6 @@ returns-in-InPlan-Visit c =
     let s = stand_of c.args.self.now in
     let h = visits (at-returns-in-InPlan-Visit c).In-InPlan-Visit in
     record {
-      stand = c.enter.ensures ∙ moved_visit g c.args.places.now s _ _ _ c.in-InPlan-Visit.is-0 h.stands (c.occurrence_place-child.ensures g h.there);
+      stand = c.enter.ensures ∙ moved_visit g c.args.places.now s _ _ _ c.in-InPlan-Visit.is-0 h.stands (c.occurrence_place-child.ensures ∙ occurrence_at g c.args.places.now s.place c.in_ok-node.node (sym c.node_at.ensures ∙ c.in_ok-node.was) _ h.there);
       met = met_visit g c.args.places.now s _ _ c.in-InPlan-Visit.is-0 h.stands;
     }
