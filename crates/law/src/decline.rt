@@ -1,8 +1,9 @@
+// Why calls are declined, and the numbers of the declines.
 ghost use Rattle.std.specs.Prelude.{◌≡◌};
 ghost use Rattle.law.specs.Declines.{decline_number};
 
 // Why a call is declined.
-#[derive(Clone, Copy)]
+#[derive(Clone, Copy, Debug, PartialEq, Eq)]
 pub enum Decline {
     // The archive lacks a function with that count of arguments.
     Function,
@@ -34,11 +35,11 @@ pub enum Decline {
     Absent,
 }
 
-impl Decline {
-    pub fn number(self) -> u8
-        ensures { result ≡ decline_number self }
-    {
-        match self {
+impl From<Decline> for u8 {
+    ghost from_gives = { λ decline n. n ≡ decline_number decline };
+
+    fn from(decline: Decline) -> u8 {
+        match decline {
             Decline::Function => 9,
             Decline::Tables => 10,
             Decline::Length => 11,
