@@ -7,7 +7,7 @@ use Rattle.std.proofs.lemmas.List.{get_or-map, get_or_past, length-map, take_all
 use Rattle.grammar.specs.Model.{Equation, Grammar}
 use Rattle.grammar.specs.Rows.{equation_of}
 use Rattle.grammar.specs.Tests.{some}
-use Rattle.grammar.specs.declared.rows.EquationRow.{EquationRow}
+use Rattle.grammar.specs.Rows.{EquationRow}
 use Rattle.plans.specs.declared.Group.{Group}
 use Rattle.sheet.specs.Answers.{group_rule}
 use Rattle.sheet.specs.Meaning.{Sound}

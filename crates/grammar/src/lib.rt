@@ -10,5 +10,5 @@ mod terms;
 pub use production::Production;
 pub use read::{Spelled, read_list};
 pub use refusal::{Layer, PlanRule, Refusal};
-pub use rows::{EquationRow, SymbolRow};
+pub use rows::{Equation, EquationRow, SymbolRow};
 pub use terms::{Argument, Attribute, Flow, Instruction};

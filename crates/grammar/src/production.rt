@@ -8,7 +8,8 @@ ghost use Rattle.grammar.specs.Scopes.{scope_of, symbol_at, visits_at, attribute
 use super::rows::SymbolRow;
 use super::terms::{Argument, Attribute, Flow, Instruction};
 
-// Occurrence 0 is the left symbol, 1 to 4 are the right ones.
+// Occurrence 0 is the left symbol, 1 to 4 are the right ones. An attribute is named by its occurrence and its number
+// there, two plain numbers as in an argument, an instruction and an equation.
 #[derive(Clone, Copy)]
 pub struct Production<'a> {
     pub symbols: &'a [SymbolRow],

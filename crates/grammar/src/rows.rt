@@ -8,10 +8,13 @@ pub struct SymbolRow {
     pub attributes: ArrayVec<Attribute, 16>,
 }
 
+// An equation, with its function as a number of that type.
 #[derive(Drop)]
-pub struct EquationRow {
+pub struct Equation<F> {
     pub occurrence: u16,
     pub attribute: u16,
-    pub function: u8,
+    pub function: F,
     pub arguments: ArrayVec<Argument, 3>,
 }
+
+pub type EquationRow = Equation<u8>;

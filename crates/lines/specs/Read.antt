@@ -1,12 +1,12 @@
 -- What came of reading the words of a line.
 use Rattle.std.specs.Prelude.{Ok, Err, Result}
 use Rattle.grammar.specs.Model.{Equation}
+use Rattle.grammar.specs.Rows.{EquationRow as SetWords, equation_of}
 use Rattle.grammar.specs.declared.rows.SymbolRow.{SymbolRow}
 use Rattle.grammar.specs.declared.refusal.Refusal.{Refusal}
 use Rattle.lines.specs.LineKinds.{Line}
 use Rattle.lines.specs.LineKinds.Line.{symbol_line, rule_line, set_line}
 use Rattle.lines.specs.declared.says.RuleWords.{RuleWords}
-use Rattle.lines.specs.declared.says.SetWords.{SetWords}
 
 abbrev pub symbol_read : Result SymbolRow Refusal → Result Line Refusal
 symbol_read (Ok s) = Ok (symbol_line s.visits s.attributes.items)
@@ -17,7 +17,7 @@ rule_read (Ok r) = Ok (rule_line r.left r.right.items)
 rule_read (Err e) = Err e
 
 abbrev pub set_of : SetWords → Equation
-set_of s = record { occurrence = s.occurrence; attribute = s.attribute; function = s.function; arguments = s.arguments.items }
+set_of s = equation_of s
 
 abbrev pub set_read : Result SetWords Refusal → Result Line Refusal
 set_read (Ok s) = Ok (set_line (set_of s))

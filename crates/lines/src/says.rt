@@ -6,7 +6,7 @@ ghost use Rattle.lines.specs.Lines.{key_in, symbol_in, rule_in, set_in};
 ghost use Rattle.lines.specs.Read.{symbol_read, rule_read, set_read};
 
 use arrayvec::ArrayVec;
-use grammar::{Argument, Refusal, SymbolRow, read_list};
+use grammar::{Equation, Refusal, SymbolRow, read_list};
 use words::Words;
 
 // The first word of a line says what kind of line it is.
@@ -50,13 +50,7 @@ pub struct RuleWords {
 }
 
 // The words behind `set=`.
-#[derive(Drop)]
-pub struct SetWords {
-    pub occurrence: u16,
-    pub attribute: u16,
-    pub function: u16,
-    pub arguments: ArrayVec<Argument, 3>,
-}
+pub type SetWords = Equation<u16>;
 
 // The words behind `symbol=`.
 pub fn symbol(mut words: Words<'_>) -> Result<SymbolRow, Refusal>

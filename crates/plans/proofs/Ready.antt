@@ -7,7 +7,7 @@ use Rattle.grammar.specs.Model.{Equation}
 use Rattle.grammar.specs.Rows.{equation_of}
 use Rattle.grammar.specs.Tests.{every, every_below}
 use Rattle.grammar.specs.Scopes.{Scope, attribute_at, attributes_at}
-use Rattle.grammar.specs.declared.rows.EquationRow.{EquationRow}
+use Rattle.grammar.specs.Rows.{EquationRow}
 use Rattle.grammar.specs.declared.terms.Flow.{Flow}
 use Rattle.grammar.specs.declared.terms.Flow.TheVariants.{Inherited, Synthesized}
 use Rattle.grammar.specs.declared.terms.Attribute.{Attribute}

@@ -8,7 +8,7 @@ use Rattle.grammar.specs.Forms.{all_of, instruction_word}
 use Rattle.grammar.specs.Rows.{equation_of}
 use Rattle.grammar.specs.Tests.{every}
 use Rattle.grammar.specs.declared.rows.SymbolRow.{SymbolRow}
-use Rattle.grammar.specs.declared.rows.EquationRow.{EquationRow}
+use Rattle.grammar.specs.Rows.{EquationRow}
 use Rattle.grammar.specs.declared.terms.Instruction.{Instruction}
 use Rattle.grammar.specs.declared.refusal.Refusal.{Refusal}
 use Rattle.grammar.specs.declared.refusal.Refusal.TheVariants.{Range}

@@ -5,7 +5,7 @@ use Rattle.std.proofs.lemmas.List.{take-append-le, drop-append-le, map_push}
 use Rattle.std.proofs.lemmas.Bool.{and_parts, and_from, leb-true, le-leb}
 use Rattle.grammar.specs.Rows.{equation_of}
 use Rattle.grammar.specs.Tests.{every}
-use Rattle.grammar.specs.declared.rows.EquationRow.{EquationRow}
+use Rattle.grammar.specs.Rows.{EquationRow}
 use Rattle.grammar.specs.declared.terms.Instruction.{Instruction}
 use Rattle.reader.specs.Spans.{span_fits, row_fits, open_fits, spans_fit}
 use Rattle.reader.specs.Steps.{add_to}

@@ -5,7 +5,7 @@ use Rattle.std.proofs.lemmas.Bool.{ltb-true, lt-ltb, leb-true, le-leb, and_from}
 use Rattle.grammar.specs.Model.{Symbol, Equation}
 use Rattle.grammar.specs.Rows.{symbol_of, equation_of}
 use Rattle.grammar.specs.declared.rows.SymbolRow.{SymbolRow}
-use Rattle.grammar.specs.declared.rows.EquationRow.{EquationRow}
+use Rattle.grammar.specs.Rows.{EquationRow}
 use Rattle.grammar.specs.Tests.{every}
 use Rattle.grammar.specs.declared.terms.Attribute.{Attribute}
 use Rattle.grammar.specs.declared.refusal.Refusal.{Refusal}

@@ -6,7 +6,7 @@ use Rattle.grammar.specs.Model.{Rule}
 use Rattle.grammar.specs.Rows.{symbol_of, equation_of}
 use Rattle.grammar.specs.Scopes.{Scope}
 use Rattle.grammar.specs.declared.rows.SymbolRow.{SymbolRow}
-use Rattle.grammar.specs.declared.rows.EquationRow.{EquationRow}
+use Rattle.grammar.specs.Rows.{EquationRow}
 use Rattle.grammar.specs.declared.terms.Instruction.{Instruction}
 use Rattle.grammar.specs.declared.refusal.Refusal.{Refusal}
 use Rattle.reader.specs.Judgement.{Outcome, grammar_in, whole}

@@ -8,7 +8,7 @@ use Rattle.std.proofs.lemmas.List.Sums.{sum_by-cons}
 use Rattle.std.proofs.lemmas.Bool.{and_parts, eqb-true, eqb-false}
 use Rattle.grammar.specs.Rows.{equation_of}
 use Rattle.grammar.specs.Tests.{every}
-use Rattle.grammar.specs.declared.rows.EquationRow.{EquationRow}
+use Rattle.grammar.specs.Rows.{EquationRow}
 use Rattle.grammar.specs.declared.terms.Instruction.{Instruction}
 use Rattle.grammar.proofs.Elements.{item_map}
 use Rattle.reader.specs.Judgement.{grammar_in}

@@ -27,6 +27,7 @@ fn read(rt: &HostRuntime, path: &str) -> io::Result<Vec<u8>> {
 }
 
 fn run(rt: &HostRuntime, path: &str) -> anyhow::Result<()> {
+    // A `match`, since the message may fail to be written, and then that is the error.
     let text = match read(rt, path) {
         Ok(text) => text,
         Err(error) => {

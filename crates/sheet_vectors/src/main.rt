@@ -22,6 +22,7 @@ fn header(line: &[u8]) -> anyhow::Result<(&str, usize)> {
 fn judge_all(rt: &HostRuntime, cases: &[u8]) -> anyhow::Result<()> {
     let mut sheet = Sheet::new(rt.alloc())?;
     let mut rest = cases;
+    // Each case says how long it is, so an iterator over cases would keep this same cursor and give a `Result` besides.
     while let Some((line, after)) = cut(rest, b'\n') {
         let (name, length) = header(line)?;
         let (text, after) = after

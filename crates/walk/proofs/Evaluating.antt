@@ -8,7 +8,7 @@ use Rattle.std.proofs.ByRecursion.{All-get_or, All-weaker}
 use Rattle.std.proofs.lemmas.List.{get_or_past}
 use Rattle.grammar.specs.Model.{Grammar, Equation, Rule, Symbol}
 use Rattle.grammar.specs.Rows.{equation_of}
-use Rattle.grammar.specs.declared.rows.EquationRow.{EquationRow}
+use Rattle.grammar.specs.Rows.{EquationRow}
 use Rattle.grammar.specs.Tests.{and_then}
 use Rattle.grammar.specs.declared.refusal.PlanRule.TheVariants.{OneEvaluation}
 use Rattle.grammar.specs.declared.terms.Argument.TheVariants.{Datum, Of}
