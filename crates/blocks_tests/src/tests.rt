@@ -3,10 +3,11 @@ ghost use Rattle.std.specs.Prelude.{◌≤◌, length, None};
 
 use archive::Archive;
 use blocks::{BlockFault, Piece, blank_values, free_all, judge_block, write_block};
-use places::{Node, Place, free_places};
+use places::{Node, Parent, Place, free_places};
 use sheet::Sheet;
 use std::test::*;
 
+// The text of examples/day.sheet, which code can't read in as it is built; a crate of its own would only hold it and `day`.
 const DAY: &[u8] =
     b"symbol=1 S1\nsymbol=2 S1 I2 I2 S2\nrule=0 1\nset=0.0 1 1.3\nset=1.1 0\nset=1.2 6\nplan=v1.1 e1.1 e1.2 v1.2 e0.0 r1\nrule=1 1 1\nset=0.0 4 1.0 2.0\nset=0.3 1 2.3\nset=1.1 1 0.1\nset=1.2 4 2.0 0.2\nset=2.1 1 1.3\nset=2.2 1 0.2\nplan=v1.1 v2.1 e0.0 r1 e1.1 e1.2 v1.2 e2.1 e2.2 v2.2 e0.3 r2\nrule=1\nset=0.0 1 d\nset=0.3 3 0.1 d\nplan=e0.0 r1 e0.3 r2\n";
 
@@ -14,9 +15,7 @@ const LEAF: Piece = Piece { rule: 2, datum: 7 };
 
 fn day(rt: HostRuntime) -> Result<Sheet, Fail> {
     let mut sheet = Sheet::new(rt.alloc())?;
-    if sheet.read(DAY).is_err() {
-        return Err(Fail::new("the sheet is refused"));
-    }
+    sheet.read(DAY)?;
     Ok(sheet)
 }
 
@@ -24,9 +23,7 @@ fn day(rt: HostRuntime) -> Result<Sheet, Fail> {
 fn lead(block: &mut [Piece], count: usize)
     requires { count ≤ length block.old }
 {
-    for i in 0..count {
-        block[i] = Piece { rule: 1, datum: 0 };
-    }
+    block[..count].fill(Piece { rule: 1, datum: 0 });
 }
 
 #[test]
@@ -43,7 +40,10 @@ fn depth_65(rt: HostRuntime) -> Result<(), Fail> {
     let sheet = day(rt)?;
     let mut block = [LEAF; 129];
     lead(&mut block, 64);
-    assert!(rt; matches!(judge_block(&sheet, Some(1), &block), Err(BlockFault::Depth)));
+    assert_eq!(rt;
+        judge_block(&sheet, Some(1), &block),
+        Err(BlockFault::Depth)
+    );
     Ok(())
 }
 
@@ -52,7 +52,7 @@ fn far_too_deep(rt: HostRuntime) -> Result<(), Fail> {
     let sheet = day(rt)?;
     let mut block = [LEAF; 1023];
     lead(&mut block, 511);
-    assert!(rt; matches!(judge_block(&sheet, None, &block), Err(BlockFault::Depth)));
+    assert_eq!(rt; judge_block(&sheet, None, &block), Err(BlockFault::Depth));
     Ok(())
 }
 
@@ -62,7 +62,7 @@ fn wrong_symbol_far_below(rt: HostRuntime) -> Result<(), Fail> {
     let mut block = [LEAF; 1023];
     lead(&mut block, 511);
     block[1022] = Piece { rule: 0, datum: 0 };
-    assert!(rt; matches!(judge_block(&sheet, None, &block), Err(BlockFault::Form)));
+    assert_eq!(rt; judge_block(&sheet, None, &block), Err(BlockFault::Form));
     Ok(())
 }
 
@@ -70,19 +70,15 @@ fn wrong_symbol_far_below(rt: HostRuntime) -> Result<(), Fail> {
 fn too_few_and_too_many(rt: HostRuntime) -> Result<(), Fail> {
     let sheet = day(rt)?;
     let block = [LEAF; 1025];
-    assert!(rt;
-        matches!(
-            judge_block(&sheet, None, &block[0..0]),
-            Err(BlockFault::Length)
-        )
+    assert_eq!(rt;
+        judge_block(&sheet, None, &block[0..0]),
+        Err(BlockFault::Length)
     );
-    assert!(rt;
-        matches!(
-            judge_block(&sheet, None, &block[0..1024]),
-            Err(BlockFault::Form)
-        )
+    assert_eq!(rt;
+        judge_block(&sheet, None, &block[0..1024]),
+        Err(BlockFault::Form)
     );
-    assert!(rt; matches!(judge_block(&sheet, None, &block), Err(BlockFault::Length)));
+    assert_eq!(rt; judge_block(&sheet, None, &block), Err(BlockFault::Length));
     Ok(())
 }
 
@@ -91,14 +87,12 @@ fn early_end_and_left_over(rt: HostRuntime) -> Result<(), Fail> {
     let sheet = day(rt)?;
     let mut block = [LEAF; 4];
     lead(&mut block, 1);
-    assert!(rt;
-        matches!(
-            judge_block(&sheet, None, &block[0..2]),
-            Err(BlockFault::Form)
-        )
+    assert_eq!(rt;
+        judge_block(&sheet, None, &block[0..2]),
+        Err(BlockFault::Form)
     );
     assert!(rt; judge_block(&sheet, None, &block[0..3]).is_ok());
-    assert!(rt; matches!(judge_block(&sheet, None, &block), Err(BlockFault::Form)));
+    assert_eq!(rt; judge_block(&sheet, None, &block), Err(BlockFault::Form));
     Ok(())
 }
 
@@ -108,7 +102,7 @@ fn symbol_of_the_first(rt: HostRuntime) -> Result<(), Fail> {
     let block = [Piece { rule: 0, datum: 0 }, LEAF];
     assert!(rt; judge_block(&sheet, None, &block).is_ok());
     assert!(rt; judge_block(&sheet, Some(0), &block).is_ok());
-    assert!(rt; matches!(judge_block(&sheet, Some(1), &block), Err(BlockFault::Form)));
+    assert_eq!(rt; judge_block(&sheet, Some(1), &block), Err(BlockFault::Form));
     Ok(())
 }
 
@@ -119,8 +113,8 @@ fn unknown_rule(rt: HostRuntime) -> Result<(), Fail> {
         rule: u32::MAX,
         datum: 0,
     }];
-    assert!(rt; matches!(judge_block(&sheet, None, &block), Err(BlockFault::Form)));
-    assert!(rt; matches!(judge_block(&sheet, Some(0), &block), Err(BlockFault::Form)));
+    assert_eq!(rt; judge_block(&sheet, None, &block), Err(BlockFault::Form));
+    assert_eq!(rt; judge_block(&sheet, Some(0), &block), Err(BlockFault::Form));
     Ok(())
 }
 
@@ -134,25 +128,19 @@ fn held() -> Node {
     }
 }
 
-// Whether a place holds such a node, with all of four attributes owed.
-fn holds(place: Place, rule: u16, datum: u32, first: u16, second: u16) -> bool {
-    let Some(node) = place else {
-        return false;
-    };
-    let [a, b, c, d] = node.children;
-    let children = a == first && b == second && c == 0 && d == 0;
-    node.rule == rule && node.datum == datum && node.marks == 15 && children
+// A place with a new node, all of whose four attributes are owed.
+fn planted(rule: u16, datum: u32, parent: Option<Parent>, children: [u16; 4]) -> Place {
+    Some(Node {
+        rule,
+        datum,
+        parent,
+        children,
+        marks: 15,
+    })
 }
 
-// Whether the node at a place is the child of place 0 at that position, and no child at position 0.
-fn hangs(place: Place, position: u16) -> bool {
-    let Some(node) = place else {
-        return false;
-    };
-    match node.parent {
-        Some(parent) => parent.place == 0 && parent.position == position,
-        None => position == 0,
-    }
+fn below_first(position: u16) -> Option<Parent> {
+    Some(Parent { place: 0, position })
 }
 
 #[test]
@@ -162,15 +150,13 @@ fn written_into_free_places(rt: HostRuntime) -> Result<(), Fail> {
     places[1] = Some(held());
     let mut block = [LEAF; 3];
     lead(&mut block, 1);
-    let Ok(()) = judge_block(&sheet, Some(1), &block) else {
-        return Err(Fail::new("the block has no fault"));
-    };
+    judge_block(&sheet, Some(1), &block)?;
     assert!(rt; block.len() <= free_places(&places));
     let root = write_block(&sheet, &mut places, &block);
     assert!(rt; root == 0);
-    assert!(rt; holds(places[0], 1, 0, 2, 3) && hangs(places[0], 0));
-    assert!(rt; holds(places[2], 2, 7, 0, 0) && hangs(places[2], 1));
-    assert!(rt; holds(places[3], 2, 7, 0, 0) && hangs(places[3], 2));
+    assert_eq!(rt; places[0], planted(1, 0, None, [2, 3, 0, 0]));
+    assert_eq!(rt; places[2], planted(2, 7, below_first(1), [0; 4]));
+    assert_eq!(rt; places[3], planted(2, 7, below_first(2), [0; 4]));
     assert!(rt; places[4].is_none() && free_places(&places) == 1);
     free_all(&mut places);
     assert!(rt; free_places(&places) == 5);
@@ -214,9 +200,7 @@ fn values_of_a_leaf(rt: HostRuntime) -> Result<(), Fail> {
     places[0] = Some(held());
     let block = [LEAF];
     let mut values = [9; 48];
-    let Ok(()) = judge_block(&sheet, None, &block) else {
-        return Err(Fail::new("the block has no fault"));
-    };
+    judge_block(&sheet, None, &block)?;
     assert!(rt; block.len() <= free_places(&places));
     blank_values(&sheet, &Codes, &places, &block, &mut values);
     assert!(rt; values[15] == 9 && values[16] == 0);

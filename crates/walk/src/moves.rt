@@ -50,10 +50,11 @@ impl<'p, 'c> Walk<'p, 'c> {
         requires first { 1 ≤ visit }
         ensures { stand_of self.new ≡ inside child visit (stand_of self.old) }
     {
-        let _pushed = self.frames.push(Frame {
+        let under_way = Frame {
             place: self.place,
             instruction: self.next,
-        });
+        };
+        self.frames.push(under_way).unwrap();
         self.mode = passing(visit - 1);
         self.place = child;
         self.next = 0;
