@@ -1,6 +1,8 @@
 -- The largest depth so far.
-use Rattle.std.proofs.Common.{◌≡◌, ℕ, ◌+◌, ◌<◌, ◌≤◌, max, Bool, true, false, cond, ◌&&◌, eqb, leb, ◌⊎◌, List, length, None, Option, sym, refl, ap, ◌∙◌, ap₂, inl, inr, arith, below_more, eq-eqb, eqb-true, leb-false, leb-true}
+use Rattle.std.proofs.Common.{◌≡◌, ℕ, zero, suc, map, ◌+◌, ◌<◌, ◌≤◌, max, Bool, true, false, cond, ◌&&◌, eqb, leb, ◌⊎◌, List, length, Some, None, Option, sym, refl, ap, ◌∙◌, subst, ap₂, inl, inr, arith, below_more, eq-eqb, eqb-true, leb-false, leb-true}
 use Rattle.std.proofs.lemmas.Bool.{and_parts}
+use Rattle.std.specs.List.{fold, reduce, range_with_len}
+use Rattle.std.specs.Option.{option_map, unwrap_or}
 use Rattle.places.specs.Places.{used, parent_at}
 use Rattle.places.specs.Shape.{top_from, depth_from}
 use Rattle.places.specs.declared.node.Node.{Node}
@@ -19,6 +21,20 @@ largest_more f i h l = (below_more (λ k. f k ≤ max h (f i)) i (λ k e. (let a
     by true e (inl z) = let a = leb-true (f i) h e in inl (omega arith)
     by true e (inr r) = let a = leb-true (f i) h e in inr (r.0, (let b = r.1 in omega arith))
     by false e r = let a = leb-false (f i) h e in inr (i, omega arith)
+
+fold_most : (f : ℕ → ℕ) (n i h : ℕ) → Largest f i h → Largest f (i + n) (fold max h (map f (range_with_len i n)))
+fold_most f zero i h l = subst (λ k. Largest f k h) (omega arith) l
+fold_most f (suc n) i h l = subst (λ k. Largest f k (fold max (max h (f i)) (map f (range_with_len (i + 1) n)))) (omega arith) (fold_most f n (i + 1) (max h (f i)) (largest_more f i h l))
+
+-- the largest value below n is the maximum of them in a row
+pub largest_found : (f : ℕ → ℕ) (n : ℕ) (o : Option ℕ) → option_map (λ y. y) o ≡ reduce max (map f (range_with_len 0 n)) → Largest f n (unwrap_or o 0)
+largest_found f zero None e = ((λ k l. absurd (omega arith)), inl refl)
+largest_found f zero (Some m) e = absurd (let z : ◌≡◌ {A = ℕ} 0 1 = cc in omega arith)
+largest_found f (suc n) None e = absurd (let z : ◌≡◌ {A = ℕ} 0 1 = cc in omega arith)
+largest_found f (suc n) (Some m) e =
+    let first : Largest f 1 (f 0) = ((λ k l. (let z : k ≡ 0 = omega arith in let s = ap f z in omega arith)), inr (0, refl)) in
+    let is : m ≡ fold max (f 0) (map f (range_with_len 1 n)) = cc in
+    subst (λ h. Largest f (suc n) h) (sym is) (subst (λ k. Largest f k (fold max (f 0) (map f (range_with_len 1 n)))) (omega arith) (fold_most f n 1 (f 0) first))
 
 depth_inside : (ps : List (Option Node)) (block q : ℕ) → used ps q ≡ true → top_from ps 64 q ≡ block → depth_in ps block q ≡ depth_from ps 64 q
 depth_inside ps block q u t = ap₂ (λ a b. cond (a && b) (depth_from ps 64 q) 0) u (eq-eqb (top_from ps 64 q) block t)

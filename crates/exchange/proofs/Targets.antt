@@ -1,7 +1,7 @@
 -- The targets of a rule's equations at a node.
-use Rattle.std.proofs.Common.{◌≡◌, ℕ, zero, suc, ◌+◌, ◌<◌, ◌≤◌, Bool, true, false, ◌&&◌, ◌||◌, ltb, List, map, length, get_or, take, drop, is_some, Some, None, Option, sym, refl, ap, ◌∙◌, subst, one-add, arith, get_or-drop, ltb-false, ltb-true}
+use Rattle.std.proofs.Common.{◌≡◌, ℕ, zero, suc, ◌+◌, ◌<◌, ◌≤◌, Bool, true, false, ◌&&◌, ◌||◌, ltb, List, [], ◌∷◌, map, length, get_or, take, drop, is_some, Some, None, Option, sym, refl, ap, ◌∙◌, ap₂, subst, add-one, one-add, arith, get_or-drop, ltb-false, ltb-true}
 use Rattle.std.specs.Option.{option_map}
-use Rattle.std.specs.List.{slice_get}
+use Rattle.std.specs.List.{slice_get, range_with_len}
 use Rattle.std.proofs.lemmas.Option.{slice_get-get_or}
 use Rattle.std.proofs.lemmas.List.{get_or-map, get_or_past, length-map, take_all}
 use Rattle.grammar.specs.Model.{Equation, Grammar}
@@ -106,3 +106,18 @@ kids_length g ps p n e = ap (λ z. length (cell_of g z).kids) e ∙ length_first
 
 pub kids_at : (g : Grammar) (ps : List (Option Node)) (p : ℕ) (n : Node) → at ps p ≡ Some n → (k : ℕ) → k < arity g n.rule → get_or (table g ps p).kids k 0 ≡ get_or n.children k 0
 kids_at g ps p n e k h = ap (λ z. get_or (cell_of g z).kids k 0) e ∙ firsts_at (arity g n.rule) k n.children h
+
+drop_head : (i : ℕ) (cs : List ℕ) → get_or cs i 0 ≡ get_or (drop i cs) 0 0
+drop_head zero cs = refl
+drop_head (suc i) [] = refl
+drop_head (suc i) (c ∷ cs) = drop_head i cs
+
+drop_next : (i : ℕ) (cs : List ℕ) → drop (suc i) cs ≡ drop 1 (drop i cs)
+drop_next zero cs = refl
+drop_next (suc i) [] = refl
+drop_next (suc i) (c ∷ cs) = drop_next i cs
+
+-- the first numbers of a row, one by one
+pub firsts_each : (n i : ℕ) (cs : List ℕ) → map (λ k. get_or cs k 0) (range_with_len i n) ≡ firsts n (drop i cs)
+firsts_each zero i cs = refl
+firsts_each (suc n) i cs = ap₂ (λ x xs. x ∷ xs) (drop_head i cs) (firsts_each n (i + 1) cs ∙ ap (λ k. firsts n (drop k cs)) (add-one i) ∙ ap (firsts n) (drop_next i cs))

@@ -1,39 +1,21 @@
 // A block, from its root without a parent down: the freeing of all its places.
-ghost use Rattle.std.specs.Prelude.{◌≡◌, ℕ, ◌<◌, ◌≤◌, true, false, length, None, MatchOption};
+ghost use Rattle.std.specs.Prelude.{◌≡◌, ◌≤◌, true, length, None};
 ghost use Rattle.sheet.specs.Answers.{grammar_of};
-ghost use Rattle.places.specs.Places.{used, parent_at, arity, table};
+ghost use Rattle.places.specs.Places.{used, parent_at, table};
 ghost use Rattle.places.specs.Shape.{SoundPlaces};
 ghost use Rattle.exchange.specs.Freeing.{Freed, UsedChild};
-ghost use Rattle.exchange.specs.Takers.{FitsAt};
 
-use places::{Place, Pushdown};
+use places::{Place, Pushdown, arity_of, node_at};
 use sheet::Sheet;
-
-// How many children a node of that rule has.
-fn arity(sheet: &Sheet, number: u16) -> usize
-    requires { number < length (grammar_of sheet.now).rules }
-    ensures value { result ≡ arity (grammar_of sheet.now) number }
-    ensures few { result ≤ 4 }
-{
-    match sheet.rule(usize::from(number)) {
-        Some(group) => group.production.right.len(),
-        None => 0,
-    }
-}
 
 // The first child of the node at p whose place is used.
 fn used_child(sheet: &Sheet, places: &[Place], p: u16) -> Option<u16>
-    requires { FitsAt (grammar_of sheet.now) places.now p }
     ensures { UsedChild places.now (table (grammar_of sheet.now) places.now p).kids result }
 {
-    let node = places[usize::from(p)]?;
-    for k in 0..arity(sheet, node.rule) {
-        let child = node.children[k];
-        if places[usize::from(child)].is_some() {
-            return Some(child);
-        }
-    }
-    None
+    let node = node_at(places, p)?;
+    (0..arity_of(sheet, node.rule))
+        .map(|k| node.child(k))
+        .find(|child| node_at(places, *child).is_some())
 }
 
 // Frees the places of a block. The list holds the way from the root down to where the work is, which no shape of block
@@ -46,11 +28,11 @@ pub fn free_block(sheet: &Sheet, places: &mut [Place], block: u16, cells: &mut [
     ensures { Freed places.old places.new block }
 {
     let mut path = Pushdown::over(cells);
-    path.push(block);
+    let _room = path.push(block);
     while let Some(p) = path.top() {
         match used_child(sheet, places, p) {
             Some(child) => {
-                path.push(child);
+                let _room = path.push(child);
             }
             None => {
                 places[usize::from(p)] = None;

@@ -12,17 +12,8 @@ use super::setting::{set_child, set_owed, set_parent};
 use super::taken::Taken;
 use super::takers::mark_takers;
 use grammar::Production;
-use places::{Parent, Place};
+use places::{Parent, Place, node_at, parent_at};
 use sheet::Sheet;
-
-// Where the node at p hangs.
-fn parent_of(places: &[Place], p: u16) -> Option<Parent>
-    requires { p < length places.now }
-    ensures { result ≡ parent_at places.now p }
-{
-    let node = places[usize::from(p)]?;
-    node.parent
-}
 
 // Hangs the held root where the node at target hung.
 fn hang(places: &mut [Place], target: u16, held: u16, parent: Parent)
@@ -54,7 +45,7 @@ fn wake_inherited(sheet: &Sheet, places: &mut [Place], p: u16)
     requires { FitsAt (grammar_of sheet.now) places.old p }
     ensures { Woke places.old places.new (inherited_at (grammar_of sheet.now) (table (grammar_of sheet.now) places.old) p) }
 {
-    let Some(node) = places[usize::from(p)] else {
+    let Some(node) = node_at(places, p) else {
         return;
     };
     let Some(group) = sheet.rule(usize::from(node.rule)) else {
@@ -72,7 +63,7 @@ pub fn exchange(sheet: &Sheet, places: &mut [Place], target: u16, held: u16)
     requires held { used places.old held ≡ true }
     ensures { ExchangedPlaces (grammar_of sheet.now) places.old places.new target held }
 {
-    if let Some(parent) = parent_of(places, target) {
+    if let Some(parent) = parent_at(places, usize::from(target)) {
         hang(places, target, held, parent);
         wake_inherited(sheet, places, held);
         let from = Taken::Occurrence(parent.position);

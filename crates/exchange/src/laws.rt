@@ -4,29 +4,21 @@ ghost use Rattle.exchange.specs.Freeing.{FreeingLaw};
 ghost use Rattle.exchange.specs.Takers.{TakersLaw, MarkingLaw};
 
 // The takers of an instance are the instances that have it as an argument.
-pub fn takers_stand<V>() -> u8
+pub fn takers_stand<V>()
     ensures { TakersLaw V }
-{
-    0
-}
+{}
 
 // Changed marks leave sound places.
-pub fn marking_stands() -> u8
+pub fn marking_stands()
     ensures { MarkingLaw }
-{
-    0
-}
+{}
 
 // An exchange leaves sound places, with the nodes where the theory of tours has them and every instance owed that has to be.
-pub fn exchange_stands() -> u8
+pub fn exchange_stands()
     ensures { ExchangeLaw }
-{
-    0
-}
+{}
 
 // Freeing a block leaves sound places.
-pub fn freeing_stands() -> u8
+pub fn freeing_stands()
     ensures { FreeingLaw }
-{
-    0
-}
+{}

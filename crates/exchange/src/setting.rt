@@ -3,40 +3,35 @@ ghost use Rattle.std.specs.Prelude.{◌≡◌, ◌<◌, length};
 ghost use Rattle.exchange.specs.Setting.{changed_at, with_child, with_parent, with_marks};
 ghost use Rattle.exchange.specs.Waking.{Woke, Slept, is_at};
 
-use places::{Parent, Place, with_owed, without_owed};
+use places::{Node, Parent, Place, node_at, with_owed, without_owed};
 
 pub fn set_child(places: &mut [Place], p: u16, k: u16, child: u16)
     requires there { p < length places.old }
     requires few { k < 4 }
     ensures { places.new ≡ changed_at (with_child k child) places.old p }
 {
-    let at = usize::from(p);
-    if let Some(mut node) = places[at] {
-        node.children[usize::from(k)] = child;
-        places[at] = Some(node);
-    }
+    let place = &mut places[usize::from(p)];
+    *place = place.map(|node| {
+        let mut children = node.children;
+        children[usize::from(k)] = child;
+        Node { children, ..node }
+    });
 }
 
 pub fn set_parent(places: &mut [Place], p: u16, parent: Option<Parent>)
     requires { p < length places.old }
     ensures { places.new ≡ changed_at (with_parent parent) places.old p }
 {
-    let at = usize::from(p);
-    if let Some(mut node) = places[at] {
-        node.parent = parent;
-        places[at] = Some(node);
-    }
+    let place = &mut places[usize::from(p)];
+    *place = place.map(|node| Node { parent, ..node });
 }
 
 pub fn set_marks(places: &mut [Place], p: u16, marks: u16)
     requires { p < length places.old }
     ensures { places.new ≡ changed_at (with_marks marks) places.old p }
 {
-    let at = usize::from(p);
-    if let Some(mut node) = places[at] {
-        node.marks = marks;
-        places[at] = Some(node);
-    }
+    let place = &mut places[usize::from(p)];
+    *place = place.map(|node| Node { marks, ..node });
 }
 
 // Makes attribute a of the node at p owed.
@@ -45,18 +40,17 @@ pub fn set_owed(places: &mut [Place], p: u16, a: u16)
     requires few { a < 16 }
     ensures { Woke places.old places.new (is_at p a) }
 {
-    if let Some(node) = places[usize::from(p)] {
+    if let Some(node) = node_at(places, p) {
         set_marks(places, p, with_owed(node.marks, a));
     }
 }
 
 // Makes attribute a of the node at p not owed.
 pub fn clear_owed(places: &mut [Place], p: u16, a: u16)
-    requires there { p < length places.old }
-    requires few { a < 16 }
+    requires { p < length places.old }
     ensures { Slept places.old places.new (is_at p a) }
 {
-    if let Some(node) = places[usize::from(p)] {
+    if let Some(node) = node_at(places, p) {
         set_marks(places, p, without_owed(node.marks, a));
     }
 }

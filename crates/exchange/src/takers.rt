@@ -13,7 +13,7 @@ ghost use Rattle.exchange.specs.Waking.{Woke};
 use super::setting::set_owed;
 use super::taken::Taken;
 use grammar::{Argument, EquationRow, Flow};
-use places::{Node, Place};
+use places::{Node, Place, node_at};
 use sheet::Sheet;
 
 fn comes_from(argument: Argument, from: Taken) -> bool
@@ -31,34 +31,21 @@ fn comes_from(argument: Argument, from: Taken) -> bool
 fn takes(equation: &EquationRow, from: Taken) -> bool
     ensures { result ≡ some (takes_from from) equation.now.arguments.items }
 {
-    for argument in equation.arguments.as_slice() {
-        if comes_from(*argument, from) {
-            return true;
-        }
-    }
-    false
-}
-
-// The place of an occurrence of the rule of the node at p.
-fn place_of(p: u16, node: Node, occurrence: u16) -> u16
-    requires { occurrence ≤ 4 }
-    ensures { result ≡ at_of p node.children occurrence }
-{
-    match occurrence {
-        0 => p,
-        _ => node.children[usize::from(occurrence) - 1],
-    }
+    equation
+        .arguments
+        .as_slice()
+        .iter()
+        .any(|argument| comes_from(*argument, from))
 }
 
 // Makes the target of an equation of the rule at p owed, if it takes an argument from there.
 fn wake_target(places: &mut [Place], p: u16, node: Node, equation: &EquationRow, from: Taken)
-    requires occurrence { equation.now.occurrence ≤ 4 }
     requires attribute { equation.now.attribute < 16 }
     requires there { at_of p node.children equation.now.occurrence < length places.old }
     ensures { Woke places.old places.new (wakes (at_of p node.children) from (equation_of equation.now)) }
 {
     if takes(equation, from) {
-        let target = place_of(p, node, equation.occurrence);
+        let target = node.occurrence_place(p, equation.occurrence);
         set_owed(places, target, equation.attribute);
     }
 }
@@ -68,7 +55,7 @@ pub fn mark_takers(sheet: &Sheet, places: &mut [Place], p: u16, from: Taken)
     requires { FitsAt (grammar_of sheet.now) places.old p }
     ensures { Woke places.old places.new (takers_at (grammar_of sheet.now) (table (grammar_of sheet.now) places.old) p from) }
 {
-    let Some(node) = places[usize::from(p)] else {
+    let Some(node) = node_at(places, p) else {
         return;
     };
     let Some(group) = sheet.rule(usize::from(node.rule)) else {
@@ -84,13 +71,10 @@ fn flow(sheet: &Sheet, number: u16, attribute: u16) -> Flow
     requires { number < length (grammar_of sheet.now).rules }
     ensures { result ≡ (slice_index_or (symbol (grammar_of sheet.now) (rule (grammar_of sheet.now) number).left).attributes attribute no_attribute).flow }
 {
-    let Some(group) = sheet.rule(usize::from(number)) else {
-        return Flow::Inherited;
-    };
-    match group.production.attribute(0, usize::from(attribute)) {
-        Some(attribute) => attribute.flow,
-        None => Flow::Inherited,
-    }
+    sheet
+        .rule(usize::from(number))
+        .and_then(|group| group.production.attribute(0, usize::from(attribute)))
+        .map_or(Flow::Inherited, |attribute| attribute.flow)
 }
 
 // Makes the instances that take attribute a of the node at q as an argument owed.
@@ -99,7 +83,7 @@ pub fn wake_takers(sheet: &Sheet, places: &mut [Place], q: u16, a: u16)
     requires there { used places.old q ≡ true }
     ensures { Woke places.old places.new (takers_of (grammar_of sheet.now) (table (grammar_of sheet.now) places.old) (q, a)) }
 {
-    let Some(node) = places[usize::from(q)] else {
+    let Some(node) = node_at(places, q) else {
         return;
     };
     match (flow(sheet, node.rule, a), node.parent) {

@@ -1,13 +1,14 @@
-use Rattle.std.proofs.Common.{◌≡◌, ◌+◌, max, sym, ap, ◌∙◌, subst}
+use Rattle.std.proofs.Common.{length, sym, subst, arith, rules}
+use borrow.Author.Tests.{tests}
+use Rattle.std.proofs.lemmas.Iterator.{YieldsList-from_range, YieldsList-from_map}
+use Rattle.std.proofs.lemmas.Iterator.Consumers.{max_from_yields_List}
 use Rattle.exchange.specs.Heights.{depth_in}
-use Rattle.exchange.proofs.Deepest.{Largest, largest_more, height_from}
+use Rattle.exchange.proofs.Deepest.{Largest, height_from, largest_found}
 use Rattle.exchange.proofs.depth.height.Goals as goal
 
-pub loop-q-preserved : goal.loop-q-preserved
-loop-q-preserved c =
-    let f = depth_in c.args.places.now c.args.block in
-    let e : c.max-most.result ≡ max c.loop-q.most (f c.loop-q.q) = c.max-most.ensures ∙ ap (λ k. max c.loop-q.most k) c.depth_in.ensures in
-    subst (Largest f (c.loop-q.q + 1)) (sym e) (largest_more f c.loop-q.q c.loop-q.most c.loop-q.invariant)
-
 pub returns : goal.returns
-returns c = height_from c.args.places.now c.args.block c.loop-q.q c.loop-q.most c.requires.there c.requires.top c.loop-q-test.false c.loop-q.invariant
+returns c =
+    let ps = c.args.places.now in
+    let deep = depth_in ps c.args.block in
+    let most = max_from_yields_List _ c.max.result c.max.ensures.ran (YieldsList-from_map _ deep (YieldsList-from_range 0 (length ps) (length ps) c.map.ensures.source (omega arith)) c.map.ensures.closure (λ x r q k. search (rules, tests))) in
+    height_from ps c.args.block (length ps) c.unwrap_or.result c.requires.there c.requires.top (omega arith) (subst (Largest deep (length ps)) (sym c.unwrap_or.ensures) (largest_found deep (length ps) c.max.result most))

@@ -7,9 +7,6 @@ use Rattle.exchange.proofs.Soundness.{sound_fits_at, hangs, position_few}
 use Rattle.exchange.proofs.Targets.{used_within}
 use Rattle.exchange.proofs.exchanging.exchange.Goals as goal
 
-pub parent_of-requires : goal.parent_of-requires
-parent_of-requires c = used_within c.args.places.now c.args.target c.requires.target
-
 pub hang-requires : goal.hang-requires
 hang-requires c =
     let g = grammar_of c.args.sheet.now in

@@ -16,16 +16,6 @@ use Rattle.exchange.proofs.Sheets.{sound_sheet, few_attributes}
 use Rattle.exchange.proofs.Targets.{rule_there, used_within, fits_used}
 use Rattle.exchange.proofs.exchanging.wake_inherited.Goals as goal
 
-pub bounds : goal.bounds
-bounds c =
-    let h = used_within c.args.places.now c.args.p (fits_used (grammar_of c.args.sheet.now) c.args.places.now c.args.p c.requires) in
-    omega arith
-
-pub bounds-places-from : goal.bounds-places-from
-bounds-places-from c =
-    let h = used_within c.args.places.now c.args.p (fits_used (grammar_of c.args.sheet.now) c.args.places.now c.args.p c.requires) in
-    omega arith
-
 pub returns-in_default-rule : goal.returns-in_default-rule
 returns-in_default-rule c =
     let g = grammar_of c.args.sheet.now in

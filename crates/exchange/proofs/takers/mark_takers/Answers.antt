@@ -12,16 +12,6 @@ use Rattle.exchange.proofs.Sheets.{sound_sheet}
 use Rattle.exchange.proofs.Targets.{Ready, rule_there, used_within, fits_used, ready, takers_more, takers_all, group_rule_lem}
 use Rattle.exchange.proofs.takers.mark_takers.Goals as goal
 
-pub bounds : goal.bounds
-bounds c =
-    let h = used_within c.args.places.now c.args.p (fits_used (grammar_of c.args.sheet.now) c.args.places.now c.args.p c.requires) in
-    omega arith
-
-pub bounds-places-from : goal.bounds-places-from
-bounds-places-from c =
-    let h = used_within c.args.places.now c.args.p (fits_used (grammar_of c.args.sheet.now) c.args.places.now c.args.p c.requires) in
-    omega arith
-
 pub returns-in_default-rule : goal.returns-in_default-rule
 returns-in_default-rule c =
     let g = grammar_of c.args.sheet.now in
@@ -43,7 +33,7 @@ wake_target-requires c =
     let k : option_map group_rule (Some c.in-Some-rule.group) ≡ slice_get g.rules node.rule = search rules in
     let same : map equation_of es ≡ (rule g node.rule).equations = ap (λ ρ. ρ.equations) (group_rule_lem g node.rule c.in-Some-rule.group k) in
     let t : Ready g ps c.args.p node c.equation-item.result = ready g ps c.args.p node (sound_sheet c.args.sheet.now node.rule f.rule_there) f l es same c.loop-equation.equation-index c.equation-item.result c.loop-equation-test.true c.equation-item.is in
-    record { occurrence = t.occurrence; attribute = t.attribute; there = (let a = t.there in let b = c.loop-equation.invariant.long in omega arith) }
+    record { attribute = t.attribute; there = (let a = t.there in let b = c.loop-equation.invariant.long in omega arith) }
 
 pub loop-equation-preserved : goal.loop-equation-preserved
 loop-equation-preserved c =

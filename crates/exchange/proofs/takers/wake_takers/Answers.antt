@@ -1,15 +1,8 @@
-use Rattle.std.proofs.Common.{◌≡◌, Some, arith, rules}
+use Rattle.std.proofs.Common.{◌≡◌, Some, rules}
 use Rattle.sheet.specs.Answers.{grammar_of}
 use Rattle.places.specs.Places.{at}
 use Rattle.exchange.proofs.Soundness.{sound_fits_at, parent_fits_at}
-use Rattle.exchange.proofs.Targets.{used_within}
 use Rattle.exchange.proofs.takers.wake_takers.Goals as goal
-
-pub bounds : goal.bounds
-bounds c = let h = used_within c.args.places.now c.args.q c.requires.there in omega arith
-
-pub bounds-places-from : goal.bounds-places-from
-bounds-places-from c = let h = used_within c.args.places.now c.args.q c.requires.there in omega arith
 
 pub flow-requires : goal.flow-requires
 flow-requires c =
