@@ -1,4 +1,3 @@
 pub mod Writing
-pub mod Rowwise
 pub mod Examples
 pub mod Supplying

@@ -30,11 +30,10 @@ identifier_led a = (λ e. omega arith, λ e. omega arith)
 
 pub path_exact : (a b : Path) → Decides (same_path a b) (a ≡ b)
 path_exact a b =
-    Decides-like (same_path a b) (λ e. same_path_lem a b e.0.0 e.0.1 e.1)
-    (λ e. ((ap (λ (p : Path). p.volume) e, ap (λ (p : Path). p.folder) e), ap (λ (p : Path). p.name) e))
-    (Decides-and (a.volume == b.volume && a.folder == b.folder) (a.name == b.name)
-    (Decides-and (a.volume == b.volume) (a.folder == b.folder) (Decides-eqb a.volume b.volume) (Decides-eqb a.folder b.folder))
-    (Decides-eqb a.name b.name))
+    Decides-like (same_path a b) (λ e. same_path_lem a b e.0 e.1.0 e.1.1)
+    (λ e. (ap (λ (p : Path). p.volume) e, (ap (λ (p : Path). p.folder) e, ap (λ (p : Path). p.name) e)))
+    (Decides-and (a.volume == b.volume) (a.folder == b.folder && a.name == b.name) (Decides-eqb a.volume b.volume)
+    (Decides-and (a.folder == b.folder) (a.name == b.name) (Decides-eqb a.folder b.folder) (Decides-eqb a.name b.name)))
 
 pub path_apart : (a b : Path) → path_text a ≡ path_text b → a ≡ b
 path_apart a b h =
@@ -50,9 +49,9 @@ path_led a = (λ e. omega arith, λ e. omega arith)
 pub values_apart : {C : Type 0} (texts : C → List ℕ) → ((a b : C) → texts a ≡ texts b → a ≡ b) → ((a : C) → Led (texts a))
     → (v w : House C) → house_text texts v ≡ house_text texts w → v ≡ w
 values_apart texts apart led Nothing Nothing h = refl
-values_apart texts apart led Nothing (Frames n) h = let z : ◌≡◌ {A = ℕ} 45 102 = cc in absurd (omega arith)
+values_apart texts apart led Nothing (Frames n) h = cc
 values_apart texts apart led Nothing (Clip d) h = absurd ((led d).0 (ap (λ (l : List ℕ). slice_index l 0) (sym h)))
-values_apart texts apart led (Frames m) Nothing h = let z : ◌≡◌ {A = ℕ} 45 102 = cc in absurd (omega arith)
+values_apart texts apart led (Frames m) Nothing h = cc
 values_apart texts apart led (Frames m) (Frames n) h = let e : numeral m ≡ numeral n = cc in ap Frames (same_from_numeral m n e)
 values_apart texts apart led (Frames m) (Clip d) h = absurd ((led d).1 (ap (λ (l : List ℕ). slice_index l 0) (sym h)))
 values_apart texts apart led (Clip c) Nothing h = absurd ((led c).0 (ap (λ (l : List ℕ). slice_index l 0) h))

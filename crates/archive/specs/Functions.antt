@@ -1,8 +1,9 @@
 -- The functions of the house, and how its values are written.
-use Rattle.std.specs.Prelude.{ℕ, ◌+◌, min, max, List, [], ◌∷◌, Some, None, Option}
-use Rattle.std.specs.Option.{option_map}
+use Rattle.std.specs.Prelude.{ℕ, ◌+◌, min, max, List, [], ◌∷◌, Some, None, Option, Ok, Err, Result}
+use Rattle.std.specs.Option.{option_map, ok_or}
 use Rattle.std.specs.List.{slice_get}
 use Rattle.archive.specs.declared.house.Function.{Function}
+use Rattle.archive.specs.declared.house.UnknownFunction.{UnknownFunction}
 use Rattle.archive.specs.declared.house.Function.TheVariants.{Zero, Copied, Sum, Extended, Choice, Later, Blank}
 use Rattle.archive.specs.declared.house.House.{House}
 use Rattle.archive.specs.declared.house.House.TheVariants.{Nothing, Frames, Clip}
@@ -12,6 +13,10 @@ use Rattle.archive.specs.Texts.{numeral}
 abbrev pub functions : List (Function × ℕ)
 functions = (Zero, 0) ∷ (Copied, 1) ∷ (Sum, 2) ∷ (Extended, 2) ∷ (Choice, 2) ∷ (Later, 2) ∷ (Blank, 0) ∷ []
 
+-- the function of a number; an error that names the number where there is none
+abbrev pub function_of : ℕ → Result Function UnknownFunction
+function_of number = ok_or (option_map (λ f. f.0) (slice_get functions number)) (record { 0 = number })
+
 -- how many arguments a function takes, if there is one of that number
 abbrev pub count_of : ℕ → Option ℕ
 count_of number = option_map (λ f. f.1) (slice_get functions number)
@@ -19,6 +24,22 @@ count_of number = option_map (λ f. f.1) (slice_get functions number)
 -- frames stop at the largest number of 32 bits
 abbrev pub held : ℕ → ℕ
 held n = min n 4294967295
+
+-- a value as frames, and as a clip
+abbrev pub frames_of : {C : Type 0} → House C → Option ℕ
+frames_of Nothing = None
+frames_of (Frames n) = Some n
+frames_of (Clip c) = None
+
+abbrev pub clip_of : {C : Type 0} → House C → Option C
+clip_of Nothing = None
+clip_of (Frames n) = None
+clip_of (Clip c) = Some c
+
+-- some frames, or nothing
+abbrev pub frames_or_nothing : {C : Type 0} → Option ℕ → House C
+frames_or_nothing None = Nothing
+frames_or_nothing (Some n) = Frames n
 
 -- both as frames, added
 abbrev pub sum_of : {C : Type 0} → House C → House C → House C
@@ -64,13 +85,13 @@ given_by lengths Choice a b = choice_of a b
 given_by lengths Later a b = later_of a b
 given_by lengths Blank a b = Nothing
 
-abbrev pub given_if : {C : Type 0} → (C → Option ℕ) → Option (Function × ℕ) → House C → House C → House C
-given_if lengths None a b = Nothing
-given_if lengths (Some f) a b = given_by lengths f.0 a b
+abbrev pub given_if : {C : Type 0} → (C → Option ℕ) → Result Function UnknownFunction → House C → House C → House C
+given_if lengths (Ok f) a b = given_by lengths f a b
+given_if lengths (Err e) a b = Nothing
 
 -- what the function of a number gives; nothing where there is none
 abbrev pub result_of : {C : Type 0} → (C → Option ℕ) → ℕ → House C → House C → House C
-result_of lengths number a b = given_if lengths (slice_get functions number) a b
+result_of lengths number a b = given_if lengths (function_of number) a b
 
 -- a value is written as -, as f and its frames, or as its clip
 abbrev pub house_text : {C : Type 0} → (C → List ℕ) → House C → List ℕ

@@ -30,7 +30,7 @@ leaf_by_path rows zero = Nothing
 leaf_by_path rows (suc n) = clip_in (slice_get rows n)
 
 abbrev pub same_path : Path → Path → Bool
-same_path a b = a.volume == b.volume && a.folder == b.folder && a.name == b.name
+same_path a b = a.volume == b.volume && (a.folder == b.folder && a.name == b.name)
 
 -- p1/2/3
 abbrev pub path_text : Path → List ℕ

@@ -1,20 +1,16 @@
 // Clips that go by an identifier.
-ghost use Rattle.archive.specs.Settings.{same_identifier, leaf_by_id, identifier_text};
+ghost use Rattle.archive.specs.Settings.{leaf_by_id, identifier_text};
 ghost use Rattle.archive.specs.Apart.{identifier_exact, identifier_apart, identifier_led};
 
 use super::clip::{Clip, Row};
 use super::house::House;
-use super::text::Text;
+use super::text::{Text, lettered};
 
-#[derive(Clone, Copy)]
+#[derive(Clone, Copy, PartialEq, Eq)]
 pub struct Identifier(pub u32);
 
 // The leaf of 0 is nothing, that of any other code the clip of that identifier.
 impl Clip for Identifier {
-    ghost matches = { same_identifier };
-
-    ghost exact = { identifier_exact };
-
     ghost leafs = { λ rows n. leaf_by_id n };
 
     ghost texts = { identifier_text };
@@ -22,10 +18,6 @@ impl Clip for Identifier {
     ghost apart = { identifier_apart };
 
     ghost led = { identifier_led };
-
-    fn is(self, other: Identifier) -> bool {
-        self.0 == other.0
-    }
 
     fn leaf(_rows: &[Row<Identifier>], code: u32) -> House<Identifier> {
         match code {
@@ -35,6 +27,8 @@ impl Clip for Identifier {
     }
 
     fn text(self) -> Text {
-        Text::lettered(b'c', self.0)
+        lettered('c', self.0)
     }
+
+    ghost exact = { identifier_exact };
 }

@@ -1,12 +1,13 @@
 // Clips that go by a path.
-ghost use Rattle.archive.specs.Settings.{same_path, leaf_by_path, path_text};
+ghost use Rattle.archive.specs.Settings.{leaf_by_path, path_text};
 ghost use Rattle.archive.specs.Apart.{path_exact, path_apart, path_led};
 
 use super::clip::{Clip, Row};
 use super::house::House;
-use super::text::Text;
+use super::text::{Text, lettered};
+use itoa::Buffer;
 
-#[derive(Clone, Copy)]
+#[derive(Clone, Copy, PartialEq, Eq)]
 pub struct Path {
     pub volume: u32,
     pub folder: u32,
@@ -15,10 +16,6 @@ pub struct Path {
 
 // The leaf of n is the path in row n, counted from 1; nothing where there is no such row.
 impl Clip for Path {
-    ghost matches = { same_path };
-
-    ghost exact = { path_exact };
-
     ghost leafs = { leaf_by_path };
 
     ghost texts = { path_text };
@@ -27,26 +24,21 @@ impl Clip for Path {
 
     ghost led = { path_led };
 
-    fn is(self, other: Path) -> bool {
-        self.volume == other.volume && self.folder == other.folder && self.name == other.name
-    }
-
     fn leaf(rows: &[Row<Path>], code: u32) -> House<Path> {
-        if code == 0 {
-            return House::Nothing;
-        }
-        match rows.get(code as usize - 1) {
-            Some(row) => House::Clip(row.clip),
-            None => House::Nothing,
-        }
+        code.checked_sub(1)
+            .and_then(|at| rows.get(at as usize))
+            .map_or(House::Nothing, |row| House::Clip(row.clip))
     }
 
+    #[tactic(auto, using(crate::proofs::Writing::pushed))]
     fn text(self) -> Text {
-        let mut text = Text::lettered(b'p', self.volume);
-        text.push(b'/');
-        text.push_number(self.folder);
-        text.push(b'/');
-        text.push_number(self.name);
+        let mut text = lettered('p', self.volume);
+        text.push('/');
+        text.push_str(Buffer::new().format(self.folder));
+        text.push('/');
+        text.push_str(Buffer::new().format(self.name));
         text
     }
+
+    ghost exact = { path_exact };
 }

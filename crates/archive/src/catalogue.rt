@@ -37,7 +37,7 @@ impl<C: Clip> Archive for Catalogue<C> {
 
     ghost counts = { λ s f. count_of f };
 
-    ghost results = { λ s f a b c. result_of (length_of C.Clip.matches s.rows.items) f a b };
+    ghost results = { λ s f a b c. result_of (length_of C.eq s.rows.items) f a b };
 
     fn count(&self, function: u8) -> Option<u8> {
         Function::count(function)
@@ -48,14 +48,11 @@ impl<C: Clip> Archive for Catalogue<C> {
     }
 
     fn apply(&self, function: u8, a: House<C>, b: House<C>, _c: House<C>) -> House<C> {
-        match Function::numbered(function) {
-            Some((function, _)) => function.of(&self.rows, a, b),
-            None => House::Nothing,
-        }
+        Function::try_from(function).map_or(House::Nothing, |f| f.of(&self.rows, a, b))
     }
 
     fn same(&self, a: House<C>, b: House<C>) -> bool {
-        a.is(b)
+        a == b
     }
 }
 

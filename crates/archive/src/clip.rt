@@ -1,7 +1,6 @@
 // What the house knows of a clip, and the rows of its catalogue.
-ghost use Rattle.std.specs.Prelude.{◌≡◌, ℕ, Bool, List, Decides};
+ghost use Rattle.std.specs.Prelude.{◌≡◌, ℕ, ◌≤◌, List, length, Decides};
 ghost use Rattle.archive.specs.Rows.{Led, length_of};
-ghost use Rattle.archive.specs.Texts.{written};
 ghost use Rattle.archive.specs.declared.clip.Row.{Row as RowOf};
 ghost use Rattle.archive.specs.declared.house.House.{House as HouseOf};
 
@@ -16,11 +15,7 @@ pub struct Row<C> {
 }
 
 // A kind of clip: the name that a setting has for one.
-pub trait Clip: Copy {
-    ghost matches: { Self → Self → Bool };
-
-    ghost exact: { (a b : Self) → Decides (matches a b) (a ≡ b) };
-
+pub trait Clip: Copy + Eq {
     // What a code stands for, over the rows of a catalogue.
     ghost leafs: { List (RowOf Self) → ℕ → HouseOf Self };
 
@@ -32,27 +27,24 @@ pub trait Clip: Copy {
     // The text of a clip does not begin as that of another value.
     ghost led: { (a : Self) → Led (texts a) };
 
-    // Whether two clips are equal.
-    fn is(self, other: Self) -> bool
-        ensures { result ≡ matches self other };
-
     // The value that a code stands for.
     fn leaf(rows: &[Row<Self>], code: u32) -> House<Self>
         ensures { result ≡ leafs rows.now code };
 
     // The text of a clip.
     fn text(self) -> Text
-        ensures { written result ≡ texts self };
+        ensures says { result.bytes ≡ texts self }
+        ensures short { length result.bytes ≤ 40 };
+
+    // Clips are equal only where they are one.
+    ghost exact: { (a b : Self) → Decides (Self.PartialEq.eq a b) (a ≡ b) };
 }
 
-// How many frames a clip has, by the first row that matches it.
+// How many frames a clip has, by the first row that has it.
 pub fn length<C: Clip>(rows: &[Row<C>], clip: C) -> Option<u32>
-    ensures { result ≡ length_of C.Clip.matches rows.now clip }
+    ensures { result ≡ length_of C.eq rows.now clip }
 {
-    for row in rows {
-        if row.clip.is(clip) {
-            return Some(row.frames);
-        }
-    }
-    None
+    rows.iter()
+        .find(|row| row.clip == clip)
+        .map(|row| row.frames)
 }

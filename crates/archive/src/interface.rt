@@ -2,7 +2,6 @@
 ghost use Rattle.std.specs.Prelude.{◌≡◌, ℕ, ◌≤◌, List, length, Decides, Option as Maybe};
 ghost use Rattle.std.specs.Option.{unwrap_or};
 ghost use Rattle.archive.specs.Arguments.{first_three};
-ghost use Rattle.archive.specs.Texts.{written};
 
 use super::text::Text;
 
@@ -44,18 +43,15 @@ pub trait Printable: Archive {
 
     // The text of a value.
     fn text(&self, value: Self::Value) -> Text
-        ensures says { written result ≡ texts self.now value }
-        ensures short { length (written result) ≤ 40 };
+        ensures says { result.bytes ≡ texts self.now value }
+        ensures short { length result.bytes ≤ 40 };
 }
 
 // A value that a function is applied to: the argument, or the leaf of 0 where it is missing.
 pub fn supplied<A: Archive>(archive: &A, argument: Option<A::Value>) -> A::Value
     ensures { result ≡ unwrap_or argument (A.leafs archive.now 0) }
 {
-    match argument {
-        Some(value) => value,
-        None => archive.leaf(0),
-    }
+    argument.unwrap_or_else(|| archive.leaf(0))
 }
 
 // The three values that a function is applied to, of the arguments that there are.

@@ -11,14 +11,12 @@ mod interface;
 mod text;
 mod varied;
 
-pub use answers::{
-    house_count, house_result, leaf_by_identifier, leaf_by_path, text_by_identifier, text_by_path,
-};
+pub use answers::{equality_is_exact, house_count, house_leaf, house_result, house_text};
 pub use by_id::Identifier;
 pub use by_path::Path;
 pub use catalogue::{ById, ByPath, Catalogue};
 pub use clip::{Clip, Row, length};
-pub use house::{Function, House};
+pub use house::{Function, House, UnknownFunction};
 pub use interface::{Archive, Printable, filled, supplied};
-pub use text::Text;
-pub use varied::settings_are_varied;
+pub use text::{Text, lettered};
+pub use varied::{settings_are_as_said, settings_are_varied};

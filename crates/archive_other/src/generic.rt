@@ -28,7 +28,5 @@ pub fn steady<A: Archive>(archive: &A, code: u32, function: u8) -> bool
 pub fn told_by_text<P: Printable>(archive: &P, v: P::Value, w: P::Value) -> bool
     ensures { Decides result (v ≡ w) }
 {
-    let one = archive.text(v);
-    let other = archive.text(w);
-    one.as_slice() == other.as_slice()
+    archive.text(v) == archive.text(w)
 }

@@ -3,7 +3,7 @@ ghost use Rattle.archive_other.specs.Harbours.{tide_of, count_of, result_of, tid
 
 use archive::{Archive, Printable, Text};
 
-#[derive(Clone, Copy)]
+#[derive(Clone, Copy, PartialEq, Eq)]
 pub enum Tide {
     Low,
     High,
@@ -52,11 +52,7 @@ impl Archive for Harbour {
     }
 
     fn same(&self, a: Tide, b: Tide) -> bool {
-        match (a, b) {
-            (Tide::Low, Tide::Low) => true,
-            (Tide::High, Tide::High) => true,
-            _ => false,
-        }
+        a == b
     }
 }
 
@@ -67,10 +63,10 @@ impl Printable for Harbour {
 
     fn text(&self, value: Tide) -> Text {
         let mut text = Text::new();
-        match value {
-            Tide::Low => text.push(b'l'),
-            Tide::High => text.push(b'h'),
-        }
+        text.push(match value {
+            Tide::Low => 'l',
+            Tide::High => 'h',
+        });
         text
     }
 }
