@@ -3,6 +3,7 @@
 ghost use Rattle.std.specs.Prelude.{◌≡◌, Decides};
 ghost use Rattle.archive.specs.Functions.{count_of, result_of, house_text};
 ghost use Rattle.archive.specs.Rows.{length_of};
+ghost use Rattle.archive.specs.Texts.{written};
 ghost use Rattle.archive.specs.declared.house.House.{House as HouseOf};
 
 use super::catalogue::Catalogue;
@@ -40,7 +41,7 @@ pub fn house_leaf<C: Clip>(archive: &Catalogue<C>, code: u32) -> House<C>
 
 // `-`, `f1000`, or the text of a clip.
 pub fn house_text<C: Clip>(archive: &Catalogue<C>, value: House<C>) -> Text
-    ensures { result.bytes ≡ house_text C.Clip.texts value }
+    ensures { written result ≡ house_text C.Clip.texts value }
 {
     archive.text(value)
 }

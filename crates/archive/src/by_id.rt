@@ -4,7 +4,7 @@ ghost use Rattle.archive.specs.Apart.{identifier_exact, identifier_apart, identi
 
 use super::clip::{Clip, Row};
 use super::house::House;
-use super::text::{Text, lettered};
+use super::text::Text;
 
 #[derive(Clone, Copy, PartialEq, Eq)]
 pub struct Identifier(pub u32);
@@ -27,7 +27,7 @@ impl Clip for Identifier {
     }
 
     fn text(self) -> Text {
-        lettered('c', self.0)
+        Text::lettered(b'c', self.0)
     }
 
     ghost exact = { identifier_exact };

@@ -4,8 +4,7 @@ ghost use Rattle.archive.specs.Apart.{path_exact, path_apart, path_led};
 
 use super::clip::{Clip, Row};
 use super::house::House;
-use super::text::{Text, lettered};
-use itoa::Buffer;
+use super::text::Text;
 
 #[derive(Clone, Copy, PartialEq, Eq)]
 pub struct Path {
@@ -30,13 +29,12 @@ impl Clip for Path {
             .map_or(House::Nothing, |row| House::Clip(row.clip))
     }
 
-    #[tactic(auto, using(crate::proofs::Writing::pushed))]
     fn text(self) -> Text {
-        let mut text = lettered('p', self.volume);
-        text.push('/');
-        text.push_str(Buffer::new().format(self.folder));
-        text.push('/');
-        text.push_str(Buffer::new().format(self.name));
+        let mut text = Text::lettered(b'p', self.volume);
+        text.push(b'/');
+        text.push_number(self.folder);
+        text.push(b'/');
+        text.push_number(self.name);
         text
     }
 

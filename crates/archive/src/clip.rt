@@ -1,6 +1,7 @@
 // What the house knows of a clip, and the rows of its catalogue.
-ghost use Rattle.std.specs.Prelude.{◌≡◌, ℕ, ◌≤◌, List, length, Decides};
+ghost use Rattle.std.specs.Prelude.{◌≡◌, ℕ, List, Decides};
 ghost use Rattle.archive.specs.Rows.{Led, length_of};
+ghost use Rattle.archive.specs.Texts.{written};
 ghost use Rattle.archive.specs.declared.clip.Row.{Row as RowOf};
 ghost use Rattle.archive.specs.declared.house.House.{House as HouseOf};
 
@@ -33,8 +34,7 @@ pub trait Clip: Copy + Eq {
 
     // The text of a clip.
     fn text(self) -> Text
-        ensures says { result.bytes ≡ texts self }
-        ensures short { length result.bytes ≤ 40 };
+        ensures { written result ≡ texts self };
 
     // Clips are equal only where they are one.
     ghost exact: { (a b : Self) → Decides (Self.PartialEq.eq a b) (a ≡ b) };

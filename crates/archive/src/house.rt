@@ -1,10 +1,11 @@
 // The values of the house, and its functions.
-ghost use Rattle.std.specs.Prelude.{◌≡◌, ◌≤◌, length as list_length, Contains, Some, option_map, codes, decimal, ◌++◌};
+ghost use Rattle.std.specs.Prelude.{◌≡◌, Contains, Some, option_map, codes, decimal, ◌++◌};
 ghost use Rattle.archive.specs.Functions.{functions, function_of, count_of, sum_of, extended_of, choice_of, later_of, given_by, frames_of, clip_of, frames_or_nothing, house_text};
+ghost use Rattle.archive.specs.Texts.{written};
 ghost use Rattle.archive.specs.Rows.{length_of};
 
 use super::clip::{Clip, Row, length};
-use super::text::{Text, lettered};
+use super::text::Text;
 use std::error::Error;
 use std::fmt;
 
@@ -169,16 +170,15 @@ impl<C: Clip> House<C> {
 
     // The text of a value.
     pub fn text(self) -> Text
-        ensures says { result.bytes ≡ house_text C.Clip.texts self }
-        ensures short { list_length result.bytes ≤ 40 }
+        ensures { written result ≡ house_text C.Clip.texts self }
     {
         match self {
             House::Nothing => {
                 let mut text = Text::new();
-                text.push('-');
+                text.push(b'-');
                 text
             }
-            House::Frames(frames) => lettered('f', frames),
+            House::Frames(frames) => Text::lettered(b'f', frames),
             House::Clip(clip) => clip.text(),
         }
     }

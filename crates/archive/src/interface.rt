@@ -2,6 +2,7 @@
 ghost use Rattle.std.specs.Prelude.{◌≡◌, ℕ, ◌≤◌, List, length, Decides, Option as Maybe};
 ghost use Rattle.std.specs.Option.{unwrap_or};
 ghost use Rattle.archive.specs.Arguments.{first_three};
+ghost use Rattle.archive.specs.Texts.{written};
 
 use super::text::Text;
 
@@ -43,8 +44,8 @@ pub trait Printable: Archive {
 
     // The text of a value.
     fn text(&self, value: Self::Value) -> Text
-        ensures says { result.bytes ≡ texts self.now value }
-        ensures short { length result.bytes ≤ 40 };
+        ensures says { written result ≡ texts self.now value }
+        ensures short { length (written result) ≤ 40 };
 }
 
 // A value that a function is applied to: the argument, or the leaf of 0 where it is missing.

@@ -18,5 +18,5 @@ pub use catalogue::{ById, ByPath, Catalogue};
 pub use clip::{Clip, Row, length};
 pub use house::{Function, House, UnknownFunction};
 pub use interface::{Archive, Printable, filled, supplied};
-pub use text::{Text, lettered};
+pub use text::Text;
 pub use varied::{settings_are_as_said, settings_are_varied};

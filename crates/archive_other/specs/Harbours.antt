@@ -30,8 +30,8 @@ tide_text High = 104 ∷ []
 
 pub tides_apart : (v w : Tide) → tide_text v ≡ tide_text w → v ≡ w
 tides_apart Low Low h = refl
-tides_apart Low High h = cc
-tides_apart High Low h = cc
+tides_apart Low High h = let z : ◌≡◌ {A = ℕ} 108 104 = cc in absurd (omega arith)
+tides_apart High Low h = let z : ◌≡◌ {A = ℕ} 108 104 = cc in absurd (omega arith)
 tides_apart High High h = refl
 
 -- a function of three values at three that stand together

@@ -28,5 +28,5 @@ pub fn steady<A: Archive>(archive: &A, code: u32, function: u8) -> bool
 pub fn told_by_text<P: Printable>(archive: &P, v: P::Value, w: P::Value) -> bool
     ensures { Decides result (v ≡ w) }
 {
-    archive.text(v) == archive.text(w)
+    archive.text(v).as_slice() == archive.text(w).as_slice()
 }

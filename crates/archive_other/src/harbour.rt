@@ -64,8 +64,8 @@ impl Printable for Harbour {
     fn text(&self, value: Tide) -> Text {
         let mut text = Text::new();
         text.push(match value {
-            Tide::Low => 'l',
-            Tide::High => 'h',
+            Tide::Low => b'l',
+            Tide::High => b'h',
         });
         text
     }

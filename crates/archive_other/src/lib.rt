@@ -14,12 +14,12 @@ mod tests {
     use std::test::Fail;
 
     // Whether a function gives, of the values that two codes stand for, the value with that text.
-    fn gives<P: Printable>(archive: &P, function: u8, codes: [u32; 2], text: &str) -> bool {
+    fn gives<P: Printable>(archive: &P, function: u8, codes: [u32; 2], text: &[u8]) -> bool {
         let a = archive.leaf(codes[0]);
         let b = archive.leaf(codes[1]);
         let c = supplied(archive, None);
         let value = archive.apply(function, a, b, c);
-        archive.text(value).as_str() == text
+        archive.text(value).as_slice() == text
     }
 
     #[test]
@@ -27,9 +27,9 @@ mod tests {
         let archive = Harbour { flood: 5 };
         assert!(rt; archive.count(7) == Some(3));
         assert!(rt; archive.count(2) == None);
-        assert!(rt; gives(&archive, 7, [5, 9], "h"));
-        assert!(rt; gives(&archive, 7, [4, 9], "l"));
-        assert!(rt; gives(&archive, 9, [4, 9], "h"));
+        assert!(rt; gives(&archive, 7, [5, 9], b"h"));
+        assert!(rt; gives(&archive, 7, [4, 9], b"l"));
+        assert!(rt; gives(&archive, 9, [4, 9], b"h"));
         assert!(rt; told_by_text(&archive, Tide::Low, archive.leaf(4)));
         assert!(rt; steady(&archive, 5, 7));
     }
@@ -53,31 +53,31 @@ mod tests {
         let archive = ById::new(rows);
         assert!(rt; archive.count(3) == Some(2));
         assert!(rt; archive.count(7) == None);
-        assert!(rt; gives(&archive, 1, [8, 0], "c8"));
-        assert!(rt; gives(&archive, 7, [7, 7], "-"));
-        assert!(rt; gives(&archive, 1, [0, 7], "-"));
-        assert!(rt; gives(&archive, 4, [0, 7], "c7"));
+        assert!(rt; gives(&archive, 1, [8, 0], b"c8"));
+        assert!(rt; gives(&archive, 7, [7, 7], b"-"));
+        assert!(rt; gives(&archive, 1, [0, 7], b"-"));
+        assert!(rt; gives(&archive, 4, [0, 7], b"c7"));
         let zero = evaluated(&archive, 0, &[]);
         let short = evaluated(&archive, 3, &[zero, archive.leaf(7)]);
         let long = evaluated(&archive, 3, &[zero, archive.leaf(9)]);
-        assert!(rt; archive.text(short).as_str() == "f1000");
+        assert!(rt; archive.text(short).as_slice() == b"f1000".as_slice());
         assert!(rt;
             archive
                 .text(evaluated(&archive, 2, &[short, long]))
-                .as_str()
-                == "f4294967295"
+                .as_slice()
+                == b"f4294967295".as_slice()
         );
         assert!(rt;
             archive
                 .text(evaluated(&archive, 5, &[short, zero]))
-                .as_str()
-                == "f1000"
+                .as_slice()
+                == b"f1000".as_slice()
         );
         assert!(rt;
             archive
                 .text(evaluated(&archive, 3, &[zero, archive.leaf(8)]))
-                .as_str()
-                == "-"
+                .as_slice()
+                == b"-".as_slice()
         );
         Ok(())
     }
@@ -103,15 +103,15 @@ mod tests {
             },
         ]?;
         let archive = ByPath::new(rows);
-        assert!(rt; gives(&archive, 1, [1, 2], "p1/2/3"));
-        assert!(rt; gives(&archive, 1, [2, 1], "p4294967295/4294967295/4294967295"));
-        assert!(rt; gives(&archive, 1, [3, 1], "-"));
-        assert!(rt; gives(&archive, 4, [0, 1], "p1/2/3"));
-        assert!(rt; gives(&archive, 7, [1, 1], "-"));
+        assert!(rt; gives(&archive, 1, [1, 2], b"p1/2/3"));
+        assert!(rt; gives(&archive, 1, [2, 1], b"p4294967295/4294967295/4294967295"));
+        assert!(rt; gives(&archive, 1, [3, 1], b"-"));
+        assert!(rt; gives(&archive, 4, [0, 1], b"p1/2/3"));
+        assert!(rt; gives(&archive, 7, [1, 1], b"-"));
         let zero = evaluated(&archive, 0, &[]);
         let short = evaluated(&archive, 3, &[zero, archive.leaf(2)]);
         let both = evaluated(&archive, 3, &[short, archive.leaf(1)]);
-        assert!(rt; archive.text(both).as_str() == "f1024");
+        assert!(rt; archive.text(both).as_slice() == b"f1024".as_slice());
         Ok(())
     }
 }

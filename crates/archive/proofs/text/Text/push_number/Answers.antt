@@ -1,0 +1,26 @@
+use Rattle.std.proofs.Common.{◌≡◌, [], ◌∷◌, ◌++◌, take, ℕ, suc, ◌+◌, List, sym, ap, ◌∙◌, append_assoc, arith}
+use Rattle.std.proofs.Math.Seq.{take-suc}
+use Rattle.std.proofs.lemmas.List.{take_all}
+use Rattle.archive.specs.Texts.{written, numeral}
+use Rattle.archive.proofs.Writing.{piece, written_so_far, numeral_decimal}
+use Rattle.archive.proofs.text.Text.push_number.Goals as goal
+
+pub loop-digit-init : goal.loop-digit-init
+loop-digit-init c = written_so_far c.args.self.now.bytes c.args.self.now.len c.args.self.now.within c.args.self.now.size
+
+pub loop-digit-preserved : goal.loop-digit-preserved
+loop-digit-preserved c =
+    let start = written c.args.self.now in
+    let digits = c.as_bytes-digit-items.result.now in
+    let i = c.loop-digit.digit-index in
+    let next : i + 1 ≡ suc i = omega arith in
+    let e = ap (λ (k : ℕ). take k digits) next ∙ take-suc digits i 0 (omega (arith, c.loop-digit-test.true)) in
+    piece (start ++ take i digits) _ _ _ c.loop-digit.invariant c.push.ensures
+    ∙ ap (take 40) (append_assoc start (take i digits) _ ∙ ap (λ (l : List ℕ). start ++ l) (sym e))
+
+pub returns : goal.returns
+returns c =
+    let digits = c.as_bytes-digit-items.result.now in
+    let all = take_all c.loop-digit.digit-index digits (omega (arith, c.loop-digit-test.false, c.loop-digit.auto)) in
+    let written_out = c.as_bytes-digit-items.ensures.value ∙ c.format.ensures.text ∙ sym (numeral_decimal c.args.n (omega arith)) in
+    c.loop-digit.invariant ∙ ap (λ (l : List ℕ). take 40 (written c.args.self.now ++ l)) (all ∙ written_out)
