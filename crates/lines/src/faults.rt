@@ -169,8 +169,5 @@ pub fn plan_fault(group: &Group<'_>) -> Option<Refusal>
     if !complete(production, group.equations) {
         return Some(Refusal::Target);
     }
-    match group.first_broken() {
-        Some(rule) => Some(Refusal::Plan(rule)),
-        None => None,
-    }
+    group.check().err().map(Refusal::Plan)
 }

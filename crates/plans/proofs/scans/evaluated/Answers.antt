@@ -1,13 +1,15 @@
-use Rattle.std.proofs.lemmas.Bool.Decides.{not_from_Decides}
-use Rattle.plans.proofs.Places.{upto_more}
-use Rattle.plans.proofs.Standing.{scan_found, scan_missed}
+use Rattle.std.proofs.Common.{◌∙◌, take}
+use Rattle.std.proofs.lemmas.Iterator.{YieldsList-from_slice}
+use Rattle.std.proofs.lemmas.Iterator.Search.{any_from_yields_List}
+use borrow.Author.Tests.{tests}
+use Rattle.std.proofs.Common.{rules}
+use Rattle.grammar.specs.declared.terms.Instruction.TheVariants.{Evaluate}
+use Rattle.plans.specs.PlanTests.{same_instruction}
+use Rattle.plans.proofs.Chains.{any_of_list}
 use Rattle.plans.proofs.scans.evaluated.Goals as goal
 
-pub loop-x-preserved : goal.loop-x-preserved
-loop-x-preserved c = upto_more _ _ _ _ c.loop-x-test.true c.loop-x.invariant (not_from_Decides _ c.is_evaluation.ensures c.if-is_evaluation.false)
-
-pub returns-then-is_evaluation : goal.returns-then-is_evaluation
-returns-then-is_evaluation c = scan_found _ _ _ _ _ c.loop-x-test.true (c.is_evaluation.ensures.0 c.if-is_evaluation.true)
-
 pub returns : goal.returns
-returns c = scan_missed _ _ _ _ c.loop-x-test.false c.loop-x.invariant
+returns c =
+    let test = same_instruction (Evaluate c.args.o c.args.a) in
+    let front = take c.args.end c.args.plan.now in
+    any_from_yields_List test _ _ _ c.any.ensures.ran (YieldsList-from_slice front (cc)) (λ x b q k. search (rules, tests)) ∙ any_of_list test front
