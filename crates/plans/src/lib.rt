@@ -1,11 +1,11 @@
 // The six rules that a plan has to meet.
 #![tactic(auto)]
 
-ghost use Rattle.std.specs.Prelude.{◌≡◌, None};
+ghost use Rattle.std.specs.Prelude.{◌≡◌, if◌then◌else◌};
 ghost use Rattle.std.specs.Result.{result_err};
 ghost use Rattle.plans.specs.Groups.{group_scope, group_equations, group_plan, TestsTell};
 ghost use Rattle.plans.specs.PlanRules.{FirstBroken};
-ghost use Rattle.plans.specs.PlanTests.{broken_or, first_broken};
+ghost use Rattle.plans.specs.PlanTests.{first_broken};
 
 mod evaluations;
 mod scans;
@@ -43,11 +43,11 @@ impl<'a> Group<'a> {
     }
 }
 
-// The rule is broken where it doesn't hold.
-fn require(holds: bool, rule: PlanRule) -> Result<(), PlanRule>
-    ensures { result_err result ≡ broken_or holds rule None }
+// The fault, unless what was asked holds.
+pub fn require<E: Drop>(holds: bool, fault: E) -> Result<(), E>
+    ensures { result_err result ≡ (if holds then None else Some fault) }
 {
-    if holds { Ok(()) } else { Err(rule) }
+    if holds { Ok(()) } else { Err(fault) }
 }
 
 // The computing tests of the specification tell just where the rules hold.

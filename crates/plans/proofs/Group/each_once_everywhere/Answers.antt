@@ -1,12 +1,10 @@
-use Rattle.std.proofs.Common.{ap, suc, ◌+◌, ◌≡◌, ◌∙◌, ℕ, Bool, rules, length, arith}
-use Rattle.std.proofs.lemmas.Iterator.{YieldsList-from_range}
-use Rattle.std.proofs.lemmas.Iterator.Search.{all_from_yields_List}
+use Rattle.std.proofs.Common.{◌≡◌, ℕ, suc, ◌+◌, Bool, length, ap, ◌∙◌, rules, arith}
 use borrow.Author.Tests.{tests}
 use Rattle.grammar.specs.Scopes.{attributes_at}
 use Rattle.grammar.specs.Tests.{every_below}
 use Rattle.plans.specs.Groups.{group_scope}
 use Rattle.plans.specs.PlanTests.{evaluates_once}
-use Rattle.plans.proofs.Chains.{all_below}
+use Rattle.plans.proofs.Chains.{below_asked}
 use Rattle.plans.proofs.Group.each_once_everywhere.Goals as goal
 
 pub returns : goal.returns
@@ -15,6 +13,4 @@ returns c =
     let test : ℕ → Bool = λ o. every_below (evaluates_once σ c.args.self.now.plan.now o) (attributes_at σ o) in
     let n = length c.args.self.now.production.right.now in
     let next : n + 1 ≡ suc n = omega arith in
-    all_from_yields_List test _ _ _ c.all.ensures.ran (YieldsList-from_range 0 (n + 1) (n + 1) (cc) (omega arith)) (λ x b q k. search (rules, tests))
-    ∙ all_below test (n + 1)
-    ∙ ap (every_below test) next
+    below_asked test (n + 1) _ _ _ c.all.ensures.ran (cc) (λ x b q k. search (rules, tests)) ∙ ap (every_below test) next
