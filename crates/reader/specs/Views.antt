@@ -24,14 +24,14 @@ abbrev pub part : {X : Type 0} → Span → List X → List X
 part s xs = between s.start s.end xs
 
 abbrev pub rule_of : List EquationRow → List Instruction → RuleRow → Rule
-rule_of es is r = record { left = r.left; right = listed r.right; equations = map equation_of (part r.equations es); plan = part r.plan is }
+rule_of es is r = record { left = r.rule.left; right = listed r.rule.right; equations = map equation_of (part r.equations es); plan = part r.plan is }
 
 abbrev pub open_of : List EquationRow → Opened → Open
-open_of es o = record { left = o.left; right = listed o.right; equations = map equation_of (drop o.start es) }
+open_of es o = record { left = o.rule.left; right = listed o.rule.right; equations = map equation_of (drop o.start es) }
 
 -- the symbols at the occurrences of the rule that is open
 abbrev pub open_scope : List SymbolRow → Opened → Scope
-open_scope symbols o = record { symbols = map symbol_of symbols; occurrences = o.left ∷ listed o.right }
+open_scope symbols o = record { symbols = map symbol_of symbols; occurrences = o.rule.left ∷ listed o.rule.right }
 
 abbrev pub rules_of : Tables → List Rule
 rules_of t = map (rule_of (vec_items t.equations) (vec_items t.plan)) (vec_items t.rules)

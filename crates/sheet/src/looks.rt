@@ -1,37 +1,18 @@
 // What a sheet holds, by its model.
-ghost use Rattle.std.specs.Prelude.{◌≡◌, ◌≤◌, map, length, IfSome, MatchBool};
+ghost use Rattle.std.specs.Prelude.{◌≡◌, map, IfSome, MatchBool};
 ghost use Rattle.std.specs.Option.{option_map};
 ghost use Rattle.std.specs.List.{slice_get};
 ghost use Rattle.grammar.specs.Rows.{symbol_of};
 ghost use Rattle.plans.specs.Groups.{group_scope};
-ghost use Rattle.reader.specs.Views.{part};
-ghost use Rattle.sheet.specs.Answers.{grammar_of, group_rule, size_of, Counted};
+ghost use Rattle.sheet.specs.Answers.{grammar_of, group_rule, Counted};
 ghost use Rattle.sheet.specs.Kept.{empty};
 ghost use Rattle.sheet.specs.Meaning.{SheetOf};
 ghost use Rattle.sheet.specs.Writing.{write};
 
 use super::counts::Counts;
 use super::kept::Sheet;
-use grammar::{Production, SymbolRow};
+use grammar::SymbolRow;
 use plans::Group;
-use reader::Span;
-
-// The part of a table that a row names.
-fn part<T>(all: &[T], span: Span) -> &[T]
-    requires ordered { span.start ≤ span.end }
-    requires inside { span.end ≤ length all.now }
-    ensures { result.now ≡ part span all.now }
-{
-    let Span { start, end } = span;
-    &all[start..end]
-}
-
-fn size(span: Span) -> usize
-    requires { span.start ≤ span.end }
-    ensures { result ≡ size_of span }
-{
-    span.end - span.start
-}
 
 impl Sheet {
     // Whether no sheet was accepted. What was accepted meets every rule, and its writing is a sheet.
@@ -53,17 +34,10 @@ impl Sheet {
         ensures symbols { IfSome result (λ g. (group_scope g).symbols ≡ (grammar_of self.now).symbols) }
     {
         let row = self.tables.rules.get(number)?;
-        let production = Production {
-            symbols: &self.tables.symbols,
-            left: row.left,
-            right: row.right.as_slice(),
-        };
-        let equations = part(&self.tables.equations, row.equations);
-        let plan = part(&self.tables.plan, row.plan);
         Some(Group {
-            production,
-            equations,
-            plan,
+            production: row.rule.production(&self.tables.symbols),
+            equations: row.equations.part(&self.tables.equations),
+            plan: row.plan.part(&self.tables.plan),
         })
     }
 
@@ -74,8 +48,8 @@ impl Sheet {
         let mut sets = 0;
         let mut instructions = 0;
         for row in self.tables.rules.iter() {
-            sets += size(row.equations);
-            instructions += size(row.plan);
+            sets += row.equations.size();
+            instructions += row.plan.size();
         }
         Counts {
             symbols: self.tables.symbols.len(),

@@ -4,20 +4,14 @@ use Rattle.grammar.specs.Rows.{symbol_of}
 use Rattle.reader.specs.Views.{rule_of}
 use Rattle.reader.specs.declared.rows.RuleRow.{RuleRow}
 use Rattle.sheet.specs.Answers.{size_of}
-use Rattle.sheet.proofs.Looking.{row_parts, sum_more, sizes}
+use Rattle.sheet.proofs.Looking.{sum_more, sizes}
 use Rattle.sheet.proofs.kept.Sheet.counts.Goals as goal
-
-pub size-sets-requires : goal.size-sets-requires
-size-sets-requires c = (row_parts c.args.self.now.tables c.deref-row-items.result.now c.loop-row.row-index c.row-item.result c.deref-row-items.ensures.value c.loop-row-test.true c.row-item.is).equations.ordered
 
 pub overflow_add-sets : goal.overflow_add-sets
 overflow_add-sets c =
     let z = sizes c.args.self.now.tables c.args.self.now.accepted in
     let m = sum_more (λ r. size_of r.equations) c.deref-row-items.result.now (vec_items c.args.self.now.tables.rules) c.loop-row.row-index c.loop-row.sets c.row-item.result c.deref-row-items.ensures.value c.loop-row-test.true c.row-item.is c.loop-row.invariant.0 in
     omega (arith, m.1, z.sets, z.few_sets, c.size-sets.ensures)
-
-pub size-instructions-requires : goal.size-instructions-requires
-size-instructions-requires c = (row_parts c.args.self.now.tables c.deref-row-items.result.now c.loop-row.row-index c.row-item.result c.deref-row-items.ensures.value c.loop-row-test.true c.row-item.is).plan.ordered
 
 pub overflow_add-instructions : goal.overflow_add-instructions
 overflow_add-instructions c =
