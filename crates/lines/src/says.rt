@@ -1,12 +1,12 @@
 // What the words of a line say.
 ghost use Rattle.std.specs.Prelude.{◌≡◌};
-ghost use Rattle.std.specs.Str.{bytes_eq};
 ghost use Rattle.words.specs.Left.{left};
+ghost use Rattle.words.specs.Tokens.{number_of, pair_word};
 ghost use Rattle.lines.specs.Lines.{key_in, symbol_in, rule_in, set_in};
-ghost use Rattle.lines.specs.Read.{symbol_read, rule_read, set_read};
+ghost use Rattle.lines.specs.Read.{FirstRead, symbol_read, rule_read, set_read};
 
 use arrayvec::ArrayVec;
-use grammar::{Equation, Refusal, SymbolRow, read_list};
+use grammar::{Equation, Production, Refusal, SymbolRow, read_list};
 use words::Words;
 
 // The first word of a line says what kind of line it is.
@@ -18,67 +18,80 @@ pub enum Key {
     OfPlan,
 }
 
-fn same(a: &[u8], b: &[u8]) -> bool
-    ensures { result ≡ bytes_eq a.now b.now }
-{
-    a == b
-}
-
 impl Key {
     pub fn read(name: &[u8]) -> Option<Key>
         ensures { result ≡ key_in name.now }
     {
-        if same(name, b"symbol") {
-            Some(Key::OfSymbol)
-        } else if same(name, b"rule") {
-            Some(Key::OfRule)
-        } else if same(name, b"set") {
-            Some(Key::OfSet)
-        } else if same(name, b"plan") {
-            Some(Key::OfPlan)
-        } else {
-            None
+        match name {
+            b"symbol" => Some(Key::OfSymbol),
+            b"rule" => Some(Key::OfRule),
+            b"set" => Some(Key::OfSet),
+            b"plan" => Some(Key::OfPlan),
+            _ => None,
         }
     }
 }
 
-// The words behind `rule=`.
+// The symbols of a rule, which are the words behind `rule=`.
 #[derive(Drop)]
-pub struct RuleWords {
+pub struct RuleSymbols {
     pub left: u16,
     pub right: ArrayVec<u16, 4>,
+}
+
+impl RuleSymbols {
+    // The rule's occurrences, where these are the symbols of the sheet.
+    pub fn production<'a>(&'a self, symbols: &'a [SymbolRow]) -> Production<'a>
+        ensures symbols { result.symbols.now ≡ symbols.now }
+        ensures left { result.left ≡ self.now.left }
+        ensures right { result.right.now ≡ self.now.right.items }
+    {
+        Production {
+            symbols,
+            left: self.left,
+            right: self.right.as_slice(),
+        }
+    }
 }
 
 // The words behind `set=`.
 pub type SetWords = Equation<u16>;
 
+// The number that the next word is.
+fn next_number(words: &mut Words<'_>) -> Result<u16, Refusal>
+    ensures { FirstRead number_of result (left words.old) (left words.new) }
+{
+    words
+        .next()
+        .and_then(|next| next.word.number())
+        .ok_or(Refusal::LineForm)
+}
+
+// The pair of numbers that the next word is.
+fn next_pair(words: &mut Words<'_>) -> Result<(u16, u16), Refusal>
+    ensures { FirstRead pair_word result (left words.old) (left words.new) }
+{
+    words
+        .next()
+        .and_then(|next| next.word.pair())
+        .ok_or(Refusal::LineForm)
+}
+
 // The words behind `symbol=`.
 pub fn symbol(mut words: Words<'_>) -> Result<SymbolRow, Refusal>
     ensures { symbol_read result ≡ symbol_in (left words.entry) }
 {
-    let Some(first) = words.next() else {
-        return Err(Refusal::LineForm);
-    };
-    let Some(visits) = first.word.number() else {
-        return Err(Refusal::LineForm);
-    };
     Ok(SymbolRow {
-        visits,
+        visits: next_number(&mut words)?,
         attributes: read_list(words)?,
     })
 }
 
-pub fn rule(mut words: Words<'_>) -> Result<RuleWords, Refusal>
+pub fn rule(mut words: Words<'_>) -> Result<RuleSymbols, Refusal>
     ensures { rule_read result ≡ rule_in (left words.entry) }
 {
-    let Some(first) = words.next() else {
-        return Err(Refusal::LineForm);
-    };
-    let Some(left) = first.word.number() else {
-        return Err(Refusal::LineForm);
-    };
-    Ok(RuleWords {
-        left,
+    Ok(RuleSymbols {
+        left: next_number(&mut words)?,
         right: read_list(words)?,
     })
 }
@@ -86,18 +99,8 @@ pub fn rule(mut words: Words<'_>) -> Result<RuleWords, Refusal>
 pub fn equation(mut words: Words<'_>) -> Result<SetWords, Refusal>
     ensures { set_read result ≡ set_in (left words.entry) }
 {
-    let Some(first) = words.next() else {
-        return Err(Refusal::LineForm);
-    };
-    let Some((occurrence, attribute)) = first.word.pair() else {
-        return Err(Refusal::LineForm);
-    };
-    let Some(second) = words.next() else {
-        return Err(Refusal::LineForm);
-    };
-    let Some(function) = second.word.number() else {
-        return Err(Refusal::LineForm);
-    };
+    let (occurrence, attribute) = next_pair(&mut words)?;
+    let function = next_number(&mut words)?;
     Ok(SetWords {
         occurrence,
         attribute,

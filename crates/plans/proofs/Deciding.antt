@@ -13,10 +13,6 @@ pub decides_implies : {P Q : Type 0} (x y : Bool) → Decides x P → Decides y 
 decides_implies true y p q = (λ h _. q.0 h, λ f. q.1 (f (p.0 refl)))
 decides_implies false y p q = (λ _ h. never (let z = p.1 h in cc), λ _. refl)
 
-pub false_from_decides : {P : Type 0} (t : Bool) → Decides t P → (P → ⊥) → t ≡ false
-false_from_decides true d h = absurd (h (d.0 refl))
-false_from_decides false d h = refl
-
 pub shown : {P : Type 0} → P → Decides true P
 shown p = (λ _. p, λ _. refl)
 

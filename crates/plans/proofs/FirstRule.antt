@@ -1,8 +1,8 @@
 -- The first broken rule, found by the tests in the order of the rules' numbers.
-use Rattle.std.proofs.Common.{◌≡◌, ℕ, suc, ◌-◌, ◌<◌, ◌≤◌, Bool, true, false, List, [], ◌∷◌, Some, None, Decides, Option, sym, refl, ap, ◌∙◌, subst, ⊎_elim, arith}
+use Rattle.std.proofs.Common.{◌≡◌, ℕ, suc, ◌-◌, ◌<◌, ◌≤◌, Bool, true, false, List, Some, Decides, Option, sym, refl, ap, subst, ⊎_elim, arith}
 use Rattle.std.specs.List.{slice_get}
 use Rattle.std.proofs.lemmas.Bool.{cases_lt}
-use Rattle.std.proofs.lemmas.Bool.Decides.{not_from_Decides, same_from_decides}
+use Rattle.std.proofs.lemmas.Bool.Decides.{not_from_Decides}
 use Rattle.grammar.specs.Model.{Equation}
 use Rattle.grammar.specs.Refusals.{rule_number}
 use Rattle.grammar.specs.Scopes.{Scope}
@@ -10,7 +10,7 @@ use Rattle.grammar.specs.declared.terms.Instruction.{Instruction}
 use Rattle.grammar.specs.declared.refusal.PlanRule.{PlanRule}
 use Rattle.grammar.specs.declared.refusal.PlanRule.TheVariants.{ReturnsInOrder, OneEvaluation, VisitsInOrder, InheritedBeforeVisit, SynthesizedBeforeReturn, ArgumentsFirst}
 use Rattle.plans.specs.PlanRules.{Holds, FirstBroken}
-use Rattle.plans.specs.PlanTests.{passes, broken_or, first_of, plan_rules, first_broken}
+use Rattle.plans.specs.PlanTests.{passes, broken_or, plan_rules, first_broken}
 use Rattle.plans.specs.Groups.{group_scope, group_equations, group_plan}
 use Rattle.plans.specs.declared.Group.{Group}
 use Rattle.plans.proofs.Telling.{tests_tell}
@@ -57,28 +57,9 @@ module _ (σ : Scope) (equations : List Equation) (plan : List Instruction) wher
       tried ReturnsInOrder _ (λ q l. let h = (numbered q).0 in absurd (omega arith))
       (λ h. tried OneEvaluation _ h (λ h. tried VisitsInOrder _ h (λ h. tried InheritedBeforeVisit _ h (λ h. tried SynthesizedBeforeReturn _ h (λ h. tried ArgumentsFirst _ h (λ h q. h q (numbered q).1))))))
 
--- the rules that are left to look at in a group, where those before them hold
-pub record Left (g : Group) (ps : List PlanRule) : Type 0 where
-  pub same : first_broken (group_scope g) (group_equations g) (group_plan g) ≡ first_of ps (group_scope g) (group_equations g) (group_plan g)
-
-pub left_all : (g : Group) → Left g plan_rules
-left_all g = record { same = refl }
-
-looked : (g : Group) (p : PlanRule) (ps : List PlanRule) (t : Bool) → Left g (p ∷ ps) → Decides t (Holds p (group_scope g) (group_equations g) (group_plan g)) → first_broken (group_scope g) (group_equations g) (group_plan g) ≡ broken_or t p (first_of ps (group_scope g) (group_equations g) (group_plan g))
-looked g p ps t h d = h.same ∙ ap (λ b. broken_or b p (first_of ps (group_scope g) (group_equations g) (group_plan g))) (same_from_decides _ t (tests_tell p (group_scope g) (group_equations g) (group_plan g)) d)
-
-pub left_more : {g : Group} {p : PlanRule} {ps : List PlanRule} {t : Bool} → Left g (p ∷ ps) → Decides t (Holds p (group_scope g) (group_equations g) (group_plan g)) → t ≡ true → Left g ps
-left_more {g} {p} {ps} {t} h d e = record { same = looked g p ps t h d ∙ ap (λ b. broken_or b p (first_of ps (group_scope g) (group_equations g) (group_plan g))) e }
-
 -- what the check of a group answers, and what that means
 abbrev pub Answers : Group → Option PlanRule → Type 0
 Answers g r = record { value : r ≡ first_broken (group_scope g) (group_equations g) (group_plan g); meaning : FirstBroken (group_scope g) (group_equations g) (group_plan g) r }
 
-answered : (g : Group) (r : Option PlanRule) → first_broken (group_scope g) (group_equations g) (group_plan g) ≡ r → Answers g r
-answered g r e = record { value = sym e; meaning = subst (FirstBroken (group_scope g) (group_equations g) (group_plan g)) e (first_broken_tells (group_scope g) (group_equations g) (group_plan g)) }
-
-pub left_broken : {g : Group} {p : PlanRule} {ps : List PlanRule} {t : Bool} → Left g (p ∷ ps) → Decides t (Holds p (group_scope g) (group_equations g) (group_plan g)) → t ≡ false → Answers g (Some p)
-left_broken {g} {p} {ps} {t} h d e = answered g (Some p) (looked g p ps t h d ∙ ap (λ b. broken_or b p (first_of ps (group_scope g) (group_equations g) (group_plan g))) e)
-
-pub left_none : {g : Group} → Left g [] → Answers g None
-left_none {g} h = answered g None h.same
+pub answered : (g : Group) (r : Option PlanRule) → r ≡ first_broken (group_scope g) (group_equations g) (group_plan g) → Answers g r
+answered g r e = record { value = e; meaning = subst (FirstBroken (group_scope g) (group_equations g) (group_plan g)) (sym e) (first_broken_tells (group_scope g) (group_equations g) (group_plan g)) }

@@ -8,3 +8,4 @@ pub mod Defining
 pub mod Ready
 pub mod Telling
 pub mod FirstRule
+pub mod Chains

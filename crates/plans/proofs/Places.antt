@@ -1,5 +1,5 @@
 -- What holds at each place of a list, and at each place before one.
-use Rattle.std.proofs.Common.{◌≡◌, ℕ, zero, suc, ◌+◌, ◌<◌, ◌≤◌, Bool, true, List, [], ◌∷◌, map, length, get_or, take, Some, None, Decides, Option, sym, refl, ap, ◌∙◌, subst, ⊎_elim, arith, length-take}
+use Rattle.std.proofs.Common.{◌≡◌, ℕ, zero, suc, ◌+◌, ◌<◌, ◌≤◌, Bool, true, List, [], ◌∷◌, map, length, get_or, Some, None, Decides, Option, sym, refl, ap, ◌∙◌, subst, ⊎_elim, arith}
 use Rattle.std.specs.Option.{option_map}
 use Rattle.std.specs.List.{AllByRecursion, slice_get}
 use Rattle.std.proofs.lemmas.Option.{slice_get-get_or}
@@ -27,9 +27,6 @@ pub nth_at : {X : Type 0} (xs : List X) (i : ℕ) (x d : X) → slice_get xs i �
 nth_at xs i x d e = let h = slice_get-get_or xs i d (nth_within xs i x e) in cc
 
 module _ {X : Type 0} (P : ℕ → X → Type 0) (xs : List X) where
-  pub upto_none : Upto P xs 0
-  upto_none m x h e = absurd (omega arith)
-
   pub upto_more : (i : ℕ) (d : X) → i < length xs → Upto P xs i → P i (get_or xs i d) → Upto P xs (i + 1)
   upto_more i d in' before here m x h e =
       ⊎_elim (λ l. before m x l e) (λ g. let same : m ≡ i = omega arith in at same) (cases_lt m i)
@@ -71,16 +68,6 @@ all_throughout P (y ∷ ys) h (suc m) x e = all_throughout P ys h.1 m x e
 pub throughout_all : {X : Type 0} (P : X → Type 0) (xs : List X) → Throughout (λ _ x. P x) xs → AllByRecursion P xs
 throughout_all P [] h = tt
 throughout_all P (y ∷ ys) h = (h 0 y refl, throughout_all P ys (λ m x e. h (suc m) x e))
-
--- what stands in the front part of a list stands there in the list
-pub nth_front : {X : Type 0} (n : ℕ) (xs : List X) (m : ℕ) → m < n → slice_get (take n xs) m ≡ slice_get xs m
-nth_front zero xs m h = absurd (omega arith)
-nth_front (suc n) [] m h = refl
-nth_front (suc n) (x ∷ xs) zero h = refl
-nth_front (suc n) (x ∷ xs) (suc m) h = nth_front n xs m (omega arith)
-
-pub within_front : {X : Type 0} (n : ℕ) (xs : List X) (m : ℕ) → m < length (take n xs) → m < n
-within_front n xs m h = omega (arith, length-take n xs)
 
 -- what holds through a list of rows holds through the list of what they mean
 pub throughout_map : {X Y : Type 0} (f : X → Y) (P : ℕ → Y → Type 0) (xs : List X) → Throughout (λ m x. P m (f x)) xs → Throughout P (map f xs)

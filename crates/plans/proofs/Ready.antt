@@ -1,7 +1,7 @@
 -- What each instruction of a plan asks of those before it.
-use Rattle.std.proofs.Common.{◌≡◌, ℕ, zero, suc, ◌<◌, ◌≤◌, Bool, true, false, not, ◌||◌, eqb, List, map, length, get_or, Some, None, Decides, Option, sym, refl, ap, ◌∙◌, subst}
-use Rattle.std.specs.List.{AllByRecursion, slice_get}
-use Rattle.std.proofs.lemmas.Bool.Decides.{Decides-eqb, Decides-and, Decides-like, Decides-below_and, same_from_decides, not_from_Decides, Decides-at}
+use Rattle.std.proofs.Common.{◌≡◌, ℕ, zero, suc, Bool, not, ◌||◌, eqb, List, map, Some, None, Decides, Option, sym, refl, ap, ◌∙◌, subst}
+use Rattle.std.specs.List.{AllByRecursion}
+use Rattle.std.proofs.lemmas.Bool.Decides.{Decides-eqb, Decides-and, Decides-like, Decides-below_and, same_from_decides}
 use Rattle.std.proofs.ByRecursion.{Decides-by_and}
 use Rattle.grammar.specs.Model.{Equation}
 use Rattle.grammar.specs.Rows.{equation_of}
@@ -17,8 +17,8 @@ use Rattle.grammar.specs.declared.terms.Instruction.{Instruction}
 use Rattle.grammar.specs.declared.terms.Instruction.TheVariants.{Evaluate, Visit, Return}
 use Rattle.plans.specs.PlanRules.{Before, KnownAt, Known, segment_at}
 use Rattle.plans.specs.PlanTests.{attribute_is, stands_before, evaluated_before, visit_ready, return_ready, known_at, known_or, known, targets, evaluation_ready}
-use Rattle.plans.proofs.Deciding.{never, shown, refuted, decides_leb, decides_implies}
-use Rattle.plans.proofs.Places.{Throughout, Upto, upto_all, upto_here, all_throughout, throughout_all, throughout_map, map_throughout}
+use Rattle.plans.proofs.Deciding.{never, decides_leb, decides_implies}
+use Rattle.plans.proofs.Places.{Throughout, all_throughout, throughout_all, throughout_map, map_throughout}
 use Rattle.plans.proofs.Standing.{before_decides}
 use Rattle.plans.proofs.Attributes.{attribute_within, attribute_decides}
 
@@ -97,40 +97,10 @@ evaluation_decides σ equations plan i (Evaluate o a) = Decides-like _ there her
 evaluation_decides σ equations plan i (Visit k j) = (λ _ o a e. never (cc), λ _. refl)
 evaluation_decides σ equations plan i (Return j) = (λ _ o a e. never (cc), λ _. refl)
 
--- what is asked of attribute a of occurrence o, where it is the one of flow f and visit j
-abbrev pub BeforeIf : List Instruction → ℕ → Flow → ℕ → ℕ → ℕ → Attribute → Type 0
-BeforeIf plan i f o j a x = attribute_is f j (Some x) ≡ true → Before plan i (Evaluate o a)
-
-module _ (σ : Scope) (plan : List Instruction) (i : ℕ) (f : Flow) (o j : ℕ) (xs : List Attribute) (are : (a : ℕ) → slice_get xs a ≡ attribute_at σ o a) where
-  pub evaluated_from : Throughout (BeforeIf plan i f o j) xs → Evaluated σ plan i f o j
-  evaluated_from h a e = h a (record { flow = f; visit = j }) (are a ∙ e) ((attribute_decides f j (Some (record { flow = f; visit = j }))).1 refl)
-
-  pub evaluated_at : Evaluated σ plan i f o j → Throughout (BeforeIf plan i f o j) xs
-  evaluated_at h a x e s = h a (sym (are a) ∙ e ∙ (attribute_decides f j (Some x)).0 s)
-
-  -- a scan of the attributes comes upon one that is not evaluated before, or passes them all
-  pub evaluated_missed : (a : ℕ) (d : Attribute) (t : Bool) → a < length xs → attribute_is f j (Some (get_or xs a d)) ≡ true → Decides t (Before plan i (Evaluate o a)) → t ≡ false → false ≡ evaluated_before σ plan i f o j
-  evaluated_missed a d t h is before e =
-      same_from_decides false _ (refuted λ all. not_from_Decides t before e (upto_here (BeforeIf plan i f o j) xs a d h (evaluated_at all) is)) (evaluated_decides σ plan i f o j)
-
-  pub evaluated_all_lem : (n : ℕ) → length xs ≤ n → Upto (BeforeIf plan i f o j) xs n → true ≡ evaluated_before σ plan i f o j
-  evaluated_all_lem n h upto = same_from_decides true _ (shown (evaluated_from (upto_all (BeforeIf plan i f o j) xs n h upto))) (evaluated_decides σ plan i f o j)
-
 -- of a right occurrence, what a visit brings is known after it
 pub known_visit : (plan : List Instruction) (i k j : ℕ) (t : Bool) → (k ≡ 0 → ⊥) → Decides t (Before plan i (Visit k j)) → t ≡ known_at plan i k j
 known_visit plan i zero j t h d = absurd (h refl)
 known_visit plan i (suc k) j t h d = same_from_decides t _ d (before_decides plan i (Visit (suc k) j))
-
--- what the check of one instruction answers
-pub visit_ready_lem : (σ : Scope) (plan : List Instruction) (i : ℕ) (x : Instruction) (k j o : ℕ) (t : Bool) → x ≡ Visit k j → o ≡ k → t ≡ evaluated_before σ plan i Inherited o j → Decides t (VisitReady σ plan i x)
-visit_ready_lem σ plan i x k j o t is same e =
-    Decides-at t _ (e ∙ ap (λ y. evaluated_before σ plan i Inherited y j) same)
-    (subst (λ y. Decides (evaluated_before σ plan i Inherited k j) (VisitReady σ plan i y)) (sym is) (visit_decides σ plan i (Visit k j)))
-
-pub return_ready_lem : (σ : Scope) (plan : List Instruction) (i : ℕ) (x : Instruction) (j : ℕ) (t : Bool) → x ≡ Return j → t ≡ evaluated_before σ plan i Synthesized 0 j → Decides t (ReturnReady σ plan i x)
-return_ready_lem σ plan i x j t is e =
-    Decides-at t _ e
-    (subst (λ y. Decides (evaluated_before σ plan i Synthesized 0 j) (ReturnReady σ plan i y)) (sym is) (return_decides σ plan i (Return j)))
 
 module _ (σ : Scope) (rows : List EquationRow) (plan : List Instruction) (i : ℕ) (x : Instruction) (o a : ℕ) (is : x ≡ Evaluate o a) where
   pub evaluation_from : Throughout (λ _ e. Follows σ plan i o a (equation_of e)) rows → EvaluationReady σ (map equation_of rows) plan i x

@@ -1,13 +1,11 @@
 -- Where an instruction stands in a plan.
-use Rattle.std.proofs.Common.{◌≡◌, ℕ, zero, suc, ◌+◌, ◌-◌, ◌<◌, ◌≤◌, Bool, true, false, not, ◌||◌, eqb, ◌⊎◌, List, [], ◌∷◌, ◌++◌, length, get_or, take, drop, Some, Decides, sym, refl, ap, ◌∙◌, inl, inr, ⊎_elim, arith, length-append}
-use Rattle.std.specs.List.{slice_get}
-use Rattle.std.proofs.lemmas.List.{at_drop_more, at_drop_all, get_or-append-add}
-use Rattle.std.proofs.lemmas.Option.{slice_get-get_or}
-use Rattle.std.proofs.lemmas.Bool.Decides.{Decides-eqb, Decides-and, Decides-or, Decides-not, Decides-like, not_from_Decides}
+use Rattle.std.proofs.Common.{◌≡◌, ℕ, zero, suc, ◌+◌, Bool, true, false, not, ◌||◌, cond, eqb, ◌⊎◌, List, [], ◌∷◌, length, count_by, Some, Decides, sym, refl, ap, ◌∙◌, inl, inr, ⊎_elim, arith, length-append}
+use Rattle.std.proofs.lemmas.Bool.{ne_eqb}
+use Rattle.std.proofs.lemmas.List.Recursion.{is_count_by}
+use Rattle.std.proofs.lemmas.Bool.Decides.{Decides-eqb, Decides-and, Decides-or, Decides-not, Decides-like, not_from_Decides, nat_tests}
 use Rattle.grammar.specs.declared.terms.Instruction.{Instruction}
 use Rattle.grammar.specs.declared.terms.Instruction.TheVariants.{Evaluate, Visit, Return}
-use Rattle.plans.proofs.Deciding.{never, false_from_decides}
-use Rattle.plans.proofs.Places.{Upto, upto_all, nth_front, within_front}
+use Rattle.plans.proofs.Deciding.{never}
 use Rattle.plans.specs.PlanRules.{Stands, StandsOnce, Before, EndsWith}
 use Rattle.plans.specs.PlanTests.{same_instruction, stands, stands_before, once_or, once, ends_with}
 
@@ -101,60 +99,30 @@ ends_decides [] x = (λ h. never (cc), λ h. let u = ap length h.1 ∙ length-ap
 ends_decides (y ∷ []) x = Decides-like _ (λ e. ([], ap (λ u. u ∷ []) (sym e))) (ends_alone x y) (same_decides x y)
 ends_decides (y ∷ z ∷ is) x = Decides-like _ (λ h. (y ∷ h.0, ap (λ l. y ∷ l) h.1)) (ends_among x y z is) (ends_decides (z ∷ is) x)
 
--- a scan of the places before n: it comes upon x at place i, or passes them all
-pub scan_found : (plan : List Instruction) (n : ℕ) (x : Instruction) (i : ℕ) (d : Instruction) → i < length (take n plan) → get_or (take n plan) i d ≡ x → Decides true (Before plan n x)
-scan_found plan n x i d h e =
-    (λ _. (i, within_front n plan i h, sym (nth_front n plan i (within_front n plan i h)) ∙ slice_get-get_or (take n plan) i d h ∙ ap Some e), λ _. refl)
+-- how often it stands in a plan
+abbrev times : Instruction → List Instruction → ℕ
+times x [] = 0
+times x (y ∷ is) = cond (same_instruction x y) (1 + times x is) (times x is)
 
-pub scan_missed : (plan : List Instruction) (n : ℕ) (x : Instruction) (i : ℕ) → length (take n plan) ≤ i → Upto (λ _ y. y ≡ x → ⊥) (take n plan) i → Decides false (Before plan n x)
-scan_missed plan n x i all h =
-    (λ e. never (cc), λ b. absurd (upto_all (λ _ y. y ≡ x → ⊥) (take n plan) i all h b.0 x (nth_front n plan b.0 b.1 ∙ b.2) refl))
+never_counted : (x : Instruction) (plan : List Instruction) → eqb (times x plan) 0 ≡ not (stands x plan)
+never_counted x [] = refl
+never_counted x (y ∷ is) = by (same_instruction x y) (never_counted x is)
+  where
+    by : (t : Bool) → eqb (times x is) 0 ≡ not (stands x is) → eqb (cond t (1 + times x is) (times x is)) 0 ≡ not (t || stands x is)
+    by true h = ne_eqb (1 + times x is) 0 (λ e. omega arith)
+    by false h = h
 
--- a scan for a second place of x has come to place i, and has seen a first one or not
-abbrev pub once_from : Bool → Instruction → List Instruction → Bool
-once_from seen x is = once_or seen x is (once x is)
+once_told : (x : Instruction) (plan : List Instruction) → eqb (times x plan) 1 ≡ once x plan
+once_told x [] = refl
+once_told x (y ∷ is) = by (same_instruction x y) (once_told x is)
+  where
+    less : (n : ℕ) → eqb (1 + n) 1 ≡ eqb n 0
+    less n = grind (arith, nat_tests)
 
-module _ (x : Instruction) (plan : List Instruction) (i : ℕ) where
-  pub once_second : (d : Instruction) → i < length plan → get_or plan i d ≡ x → once_from true x (drop i plan) ≡ false
-  once_second d h e = at_drop_more (once_from true x) plan i d h ∙ ap (λ t. not (t || stands x (drop (i + 1) plan))) ((same_decides x (get_or plan i d)).1 (sym e))
+    by : (t : Bool) → eqb (times x is) 1 ≡ once x is → eqb (cond t (1 + times x is) (times x is)) 1 ≡ once_or t x is (once x is)
+    by true h = less (times x is) ∙ never_counted x is
+    by false h = h
 
-  pub once_seen : (d : Instruction) → i < length plan → get_or plan i d ≡ x → once_from true x (drop (i + 1) plan) ≡ once_from false x (drop i plan)
-  once_seen d h e = sym (at_drop_more (once_from false x) plan i d h ∙ ap (λ t. once_from t x (drop (i + 1) plan)) ((same_decides x (get_or plan i d)).1 (sym e)))
-
-  pub once_other : (seen : Bool) (d : Instruction) → i < length plan → (get_or plan i d ≡ x → ⊥) → once_from seen x (drop (i + 1) plan) ≡ once_from seen x (drop i plan)
-  once_other seen d h apart = sym (at_drop_more (once_from seen x) plan i d h ∙ by seen (false_from_decides _ (same_decides x (get_or plan i d)) (λ e. apart (sym e))))
-    where
-      by : (t : Bool) → same_instruction x (get_or plan i d) ≡ false → once_from t x (get_or plan i d ∷ drop (i + 1) plan) ≡ once_from t x (drop (i + 1) plan)
-      by true e = ap (λ t. not (t || stands x (drop (i + 1) plan))) e
-      by false e = ap (λ t. once_from t x (drop (i + 1) plan)) e
-
-  pub once_done : (seen : Bool) → length plan ≤ i → once_from seen x (drop i plan) ≡ seen
-  once_done seen h = at_drop_all (once_from seen x) plan i h ∙ by seen
-    where
-      by : (t : Bool) → once_from t x [] ≡ t
-      by true = refl
-      by false = refl
-
-less_one : (n : ℕ) → suc n - 1 ≡ n
-less_one n = omega arith
-
--- a plan ends with what stands at its last place
-pub last_ends : (plan : List Instruction) (x : Instruction) → slice_get plan (length plan - 1) ≡ Some x → EndsWith plan x
-last_ends [] x e = never (cc)
-last_ends (y ∷ []) x e = let same : y ≡ x = cc in ([], ap (λ u. u ∷ []) same)
-last_ends (y ∷ z ∷ is) x e =
-    let h = last_ends (z ∷ is) x (ap (slice_get (z ∷ is)) (less_one (length is)) ∙ sym (ap (slice_get (y ∷ z ∷ is)) (less_one (suc (length is)))) ∙ e) in
-    (y ∷ h.0, ap (λ l. y ∷ l) h.1)
-
-pub ends_last : (plan : List Instruction) (x : Instruction) → EndsWith plan x → slice_get plan (length plan - 1) ≡ Some x
-ends_last plan x (before, e) =
-    let last : length (before ++ x ∷ []) - 1 ≡ length before + 0 = omega (arith, length-append before (x ∷ [])) in
-    ap (λ l. slice_get l (length l - 1)) e ∙ ap (slice_get (before ++ x ∷ [])) last ∙ slice_get-get_or (before ++ x ∷ []) (length before + 0) x (omega (arith, length-append before (x ∷ []))) ∙ ap Some (get_or-append-add before (x ∷ []) 0 x)
-
-pub ends_some : (plan : List Instruction) (x y : Instruction) (t : Bool) → 0 < length plan → y ≡ get_or plan (length plan - 1) y → Decides t (y ≡ x) → Decides t (EndsWith plan x)
-ends_some plan x y t h at =
-    let last : slice_get plan (length plan - 1) ≡ Some y = slice_get-get_or plan (length plan - 1) y (omega arith) ∙ ap Some (sym at) in
-    Decides-like t (λ e. last_ends plan x (last ∙ ap Some e)) (λ e. let same = ends_last plan x e in cc)
-
-pub ends_none : (plan : List Instruction) (x : Instruction) → length plan ≤ 0 → Decides false (EndsWith plan x)
-ends_none plan x h = (λ e. never (cc), λ e. let u = ap length e.1 ∙ length-append e.0 (x ∷ []) in absurd (omega arith))
+-- it stands once where it is counted once
+pub once_counted : (x : Instruction) (plan : List Instruction) → eqb (count_by (same_instruction x) plan) 1 ≡ once x plan
+once_counted x plan = ap (λ n. eqb n 1) (sym (is_count_by (times x) (same_instruction x) refl (λ _ _. refl) plan)) ∙ once_told x plan

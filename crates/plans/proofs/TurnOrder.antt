@@ -1,14 +1,11 @@
 -- The turns of an occurrence, compared with the numbers that they should be.
-use Rattle.std.proofs.Common.{◌≡◌, ℕ, suc, ◌+◌, ◌-◌, ◌<◌, ◌≤◌, Bool, true, false, ◌&&◌, eqb, List, [], ◌∷◌, ◌++◌, length, get_or, drop, is_some, Some, None, Option, sym, refl, ap, ◌∙◌, ⊎_elim, arith}
-use Rattle.std.specs.Option.{option_to_list}
+use Rattle.std.proofs.Common.{◌≡◌, ℕ, suc, ◌+◌, ◌-◌, ◌<◌, ◌≤◌, Bool, true, false, ◌&&◌, eqb, List, [], ◌∷◌, ◌++◌, length, get_or, drop, sym, refl, ap, ◌∙◌, ⊎_elim, arith}
 use Rattle.std.specs.Str.{bytes_eq}
 use Rattle.std.proofs.lemmas.List.{at_drop_more, at_drop_all}
 use Rattle.std.proofs.lemmas.Bool.{cases_lt, eq-eqb, ne_eqb}
 use Rattle.grammar.specs.declared.terms.Instruction.{Instruction}
 use Rattle.grammar.specs.declared.terms.Instruction.TheVariants.{Evaluate, Visit, Return}
-use Rattle.plans.specs.PlanRules.{is_return}
 use Rattle.plans.specs.PlanTests.{keep_if, visit_turn, turns_of, numbers_from}
-use Rattle.plans.proofs.Deciding.{never}
 
 kept_first : (t : Bool) (j : ℕ) (js : List ℕ) → keep_if t j js ≡ keep_if t j [] ++ js
 kept_first true j js = refl
@@ -19,15 +16,6 @@ pub turns_first : (k : ℕ) (x : Instruction) (is : List Instruction) → turns_
 turns_first k (Evaluate o a) is = refl
 turns_first k (Visit o j) is = kept_first (visit_turn k o) j (turns_of k is)
 turns_first k (Return j) is = kept_first (eqb 0 k) j (turns_of k is)
-
--- turn_of's answer at the left occurrence tells a return
-pub turn_return : (x : Instruction) (o : Option ℕ) → option_to_list o ≡ turns_of 0 (x ∷ []) → is_return x ≡ is_some o
-turn_return (Evaluate p a) None e = refl
-turn_return (Evaluate p a) (Some i) e = never (cc)
-turn_return (Visit k j) None e = refl
-turn_return (Visit k j) (Some i) e = never (cc)
-turn_return (Return j) None e = never (cc)
-turn_return (Return j) (Some i) e = refl
 
 -- of the numbers 1 to n, those after m
 numbers_more : (m n : ℕ) → m < n → numbers_from (m + 1) (n - m) ≡ (m + 1) ∷ numbers_from (m + 1 + 1) (n - (m + 1))

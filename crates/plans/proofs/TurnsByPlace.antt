@@ -152,12 +152,3 @@ turns_from σ plan (suc k) = in_turn_from (suc k) (Visit (suc k)) (λ j l e. cc)
 pub turns_at : (σ : Scope) (plan : List Instruction) (k : ℕ) → TurnsInOrder σ plan k → turns_of k plan ≡ numbers_from 1 (visits_at σ k)
 turns_at σ plan zero = in_turn_at 0 Return (λ j l e. cc) returns_turn plan (visits_at σ 0)
 turns_at σ plan (suc k) = in_turn_at (suc k) (Visit (suc k)) (λ j l e. cc) (visits_turn k) plan (visits_at σ (suc k))
-
--- of a right occurrence they are the visits to it
-pub visits_from : (σ : Scope) (plan : List Instruction) (k : ℕ) → 1 ≤ k → TurnsInOrder σ plan k → InTurn plan (Visit k) (visits_at σ k)
-visits_from σ plan zero low h = absurd (omega arith)
-visits_from σ plan (suc k) low h = h
-
-pub visits_at_lem : (σ : Scope) (plan : List Instruction) (k : ℕ) → 1 ≤ k → InTurn plan (Visit k) (visits_at σ k) → TurnsInOrder σ plan k
-visits_at_lem σ plan zero low h = absurd (omega arith)
-visits_at_lem σ plan (suc k) low h = h

@@ -104,6 +104,11 @@ return_ready σ plan i (Some (Evaluate o a)) = true
 return_ready σ plan i (Some (Visit k j)) = true
 return_ready σ plan i (Some (Return j)) = evaluated_before σ plan i Synthesized 0 j
 
+-- what an instruction asks of the attributes of one flow
+abbrev pub flow_ready : Flow → Scope → List Instruction → ℕ → Option Instruction → Bool
+flow_ready Inherited σ plan i o = visit_ready σ plan i o
+flow_ready Synthesized σ plan i o = return_ready σ plan i o
+
 abbrev pub known_at : List Instruction → ℕ → ℕ → ℕ → Bool
 known_at plan i zero j = nat_le j (segment_at plan i)
 known_at plan i (suc k) j = stands_before plan i (Visit (suc k) j)

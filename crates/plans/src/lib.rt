@@ -1,7 +1,8 @@
 // The six rules that a plan has to meet.
 #![tactic(auto)]
 
-ghost use Rattle.std.specs.Prelude.{◌≡◌};
+ghost use Rattle.std.specs.Prelude.{◌≡◌, if◌then◌else◌};
+ghost use Rattle.std.specs.Result.{result_err};
 ghost use Rattle.plans.specs.Groups.{group_scope, group_equations, group_plan, TestsTell};
 ghost use Rattle.plans.specs.PlanRules.{FirstBroken};
 ghost use Rattle.plans.specs.PlanTests.{first_broken};
@@ -11,7 +12,7 @@ mod scans;
 mod turns;
 mod waits;
 
-use grammar::{EquationRow, Instruction, PlanRule, Production};
+use grammar::{EquationRow, Flow, Instruction, PlanRule, Production};
 
 // A rule with its equations and its plan.
 #[derive(Clone, Copy)]
@@ -22,36 +23,34 @@ pub struct Group<'a> {
 }
 
 impl<'a> Group<'a> {
-    // The broken rule of least number: each rule is looked at over the whole plan before the next.
-    pub fn first_broken(&self) -> Option<PlanRule>
-        ensures value { result ≡ first_broken (group_scope self.now) (group_equations self.now) (group_plan self.now) }
-        ensures meaning { FirstBroken (group_scope self.now) (group_equations self.now) (group_plan self.now) result }
+    // The broken rule of least number, if any: each rule is looked at over the whole plan before the next.
+    pub fn check(&self) -> Result<(), PlanRule>
+        ensures value { result_err result ≡ first_broken (group_scope self.now) (group_equations self.now) (group_plan self.now) }
+        ensures meaning { FirstBroken (group_scope self.now) (group_equations self.now) (group_plan self.now) (result_err result) }
     {
-        if !self.returns_in_order() {
-            return Some(PlanRule::ReturnsInOrder);
-        }
-        if !self.one_evaluation() {
-            return Some(PlanRule::OneEvaluation);
-        }
-        if !self.visits_in_order() {
-            return Some(PlanRule::VisitsInOrder);
-        }
-        if !self.inherited_before_visit() {
-            return Some(PlanRule::InheritedBeforeVisit);
-        }
-        if !self.synthesized_before_return() {
-            return Some(PlanRule::SynthesizedBeforeReturn);
-        }
-        if !self.arguments_first() {
-            return Some(PlanRule::ArgumentsFirst);
-        }
-        None
+        require(self.returns_in_order(), PlanRule::ReturnsInOrder)?;
+        require(self.one_evaluation(), PlanRule::OneEvaluation)?;
+        require(self.visits_in_order(), PlanRule::VisitsInOrder)?;
+        require(
+            self.all_ready(Flow::Inherited),
+            PlanRule::InheritedBeforeVisit,
+        )?;
+        require(
+            self.all_ready(Flow::Synthesized),
+            PlanRule::SynthesizedBeforeReturn,
+        )?;
+        require(self.arguments_first(), PlanRule::ArgumentsFirst)
     }
 }
 
-// The computing tests of the specification tell just where the rules hold.
-pub fn tests_tell() -> u8
-    ensures { TestsTell }
+// The fault, unless what was asked holds.
+pub fn require<E: Drop>(holds: bool, fault: E) -> Result<(), E>
+    ensures { result_err result ≡ (if holds then None else Some fault) }
 {
-    0
+    if holds { Ok(()) } else { Err(fault) }
 }
+
+// The computing tests of the specification tell just where the rules hold.
+pub fn tests_tell()
+    ensures { TestsTell }
+{}

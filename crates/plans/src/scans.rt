@@ -1,67 +1,38 @@
-// What stands where in a plan. An occurrence and an attribute are places in a table here, and may lie past what an
-// instruction can name.
-ghost use Rattle.std.specs.Prelude.{◌≡◌, ℕ, ◌≤◌, length, Decides};
-ghost use Rattle.grammar.specs.declared.terms.Instruction.TheVariants.{Evaluate, Visit};
-ghost use Rattle.plans.specs.PlanRules.{Before, StandsOnce};
+// What stands where in a plan.
+ghost use Rattle.std.specs.Prelude.{◌≡◌, ◌≤◌, length, Decides};
+ghost use Rattle.grammar.specs.declared.terms.Instruction.TheVariants.{Evaluate};
+ghost use Rattle.plans.specs.PlanRules.{Before};
+ghost use Rattle.plans.specs.PlanTests.{same_instruction, stands_before, once};
 
 use grammar::Instruction;
 
-fn is_evaluation(x: Instruction, o: usize, a: usize) -> bool
-    ensures { Decides result (x ≡ Evaluate o a) }
+// Whether an instruction evaluates attribute a of occurrence o. These are places in tables, which may lie past what an
+// instruction can name, so that there may be no instruction to compare with.
+fn evaluates(x: Instruction, o: usize, a: usize) -> bool
+    ensures { result ≡ same_instruction (Evaluate o a) x }
 {
-    match x {
-        Instruction::Evaluate(p, b) => usize::from(p) == o && usize::from(b) == a,
-        Instruction::Visit(..) | Instruction::Return(_) => false,
-    }
+    matches!(x, Instruction::Evaluate(p, b) if usize::from(p) == o && usize::from(b) == a)
+}
+
+// Whether an instruction stands before place `end`.
+pub(super) fn stands_before(plan: &[Instruction], end: usize, x: Instruction) -> bool
+    requires { end ≤ length plan.now }
+    ensures { Decides result (Before plan.now end x) }
+{
+    plan[..end].contains(&x)
 }
 
 // Whether attribute a of occurrence o is evaluated before place `end`.
 pub(super) fn evaluated(plan: &[Instruction], end: usize, o: usize, a: usize) -> bool
     requires { end ≤ length plan.now }
-    ensures { Decides result (Before plan.now end (Evaluate o a)) }
+    ensures { result ≡ stands_before plan.now end (Evaluate o a) }
 {
-    for x in &plan[..end] {
-        if is_evaluation(*x, o, a) {
-            return true;
-        }
-    }
-    false
+    plan[..end].iter().any(|x| evaluates(*x, o, a))
 }
 
 // Whether attribute a of occurrence o is evaluated at one place.
 pub(super) fn evaluated_once(plan: &[Instruction], o: usize, a: usize) -> bool
-    ensures { Decides result ((i : ℕ) × StandsOnce plan.now i (Evaluate o a)) }
+    ensures { result ≡ once (Evaluate o a) plan.now }
 {
-    let mut seen = false;
-    for x in plan {
-        if is_evaluation(*x, o, a) {
-            if seen {
-                return false;
-            }
-            seen = true;
-        }
-    }
-    seen
-}
-
-fn is_visit(x: Instruction, k: u16, j: u16) -> bool
-    ensures { Decides result (x ≡ Visit k j) }
-{
-    match x {
-        Instruction::Visit(l, i) => l == k && i == j,
-        Instruction::Evaluate(..) | Instruction::Return(_) => false,
-    }
-}
-
-// Whether visit j of occurrence k stands before place `end`.
-pub(super) fn visited(plan: &[Instruction], end: usize, k: u16, j: u16) -> bool
-    requires { end ≤ length plan.now }
-    ensures { Decides result (Before plan.now end (Visit k j)) }
-{
-    for x in &plan[..end] {
-        if is_visit(*x, k, j) {
-            return true;
-        }
-    }
-    false
+    plan.iter().filter(|x| evaluates(**x, o, a)).count() == 1
 }

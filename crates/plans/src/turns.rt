@@ -1,17 +1,17 @@
 // The turns of an occurrence: the visits to a right one, the returns of the left one.
-ghost use Rattle.std.specs.Prelude.{◌≡◌, [], ◌∷◌, Decides};
+ghost use Rattle.std.specs.Prelude.{◌≡◌, [], ◌∷◌};
 ghost use Rattle.grammar.specs.Scopes.{visits_at};
 ghost use Rattle.grammar.specs.declared.terms.Instruction.TheVariants.{Return};
 ghost use Rattle.std.specs.Option.{option_to_list};
-ghost use Rattle.plans.specs.Groups.{group_scope, group_plan};
-ghost use Rattle.plans.specs.PlanRules.{EndsWith, ReturnsStandInOrder, VisitsStandInOrder};
-ghost use Rattle.plans.specs.PlanTests.{turns_of, TurnsInOrder};
+ghost use Rattle.grammar.specs.declared.refusal.PlanRule.TheVariants.{ReturnsInOrder, VisitsInOrder};
+ghost use Rattle.plans.specs.Groups.{group_scope, group_equations, group_plan};
+ghost use Rattle.plans.specs.PlanTests.{turns_of, in_order, ends_with, passes};
 
 use super::Group;
 use grammar::Instruction;
 
 // The turn that an instruction is of that occurrence, if it is one.
-pub(super) fn turn_of(x: Instruction, occurrence: usize) -> Option<u16>
+fn turn_of(x: Instruction, occurrence: usize) -> Option<u16>
     ensures { option_to_list result ≡ turns_of occurrence (x ∷ []) }
 {
     match x {
@@ -21,20 +21,12 @@ pub(super) fn turn_of(x: Instruction, occurrence: usize) -> Option<u16>
     }
 }
 
-fn is_return(x: Instruction, j: u16) -> bool
-    ensures { Decides result (x ≡ Return j) }
-{
-    match x {
-        Instruction::Return(i) => i == j,
-        Instruction::Evaluate(..) | Instruction::Visit(..) => false,
-    }
-}
-
 impl<'a> Group<'a> {
     // Whether the turns of an occurrence are 1 to its number of visits, once each, in order.
     fn in_order(&self, occurrence: usize) -> bool
-        ensures { Decides result (TurnsInOrder (group_scope self.now) (group_plan self.now) occurrence) }
+        ensures { result ≡ in_order (group_scope self.now) (group_plan self.now) occurrence }
     {
+        // A loop, since the proof lacks the list that `1..=visits` gives, against which `eq` would compare the turns.
         let visits = self.production.visits(occurrence);
         let mut done = 0u16;
         for x in self.plan {
@@ -50,28 +42,21 @@ impl<'a> Group<'a> {
 
     // Whether the last instruction is the return from the left symbol's last visit.
     fn ends(&self) -> bool
-        ensures { Decides result (EndsWith (group_plan self.now) (Return (visits_at (group_scope self.now) 0))) }
+        ensures { result ≡ ends_with (Return (visits_at (group_scope self.now) 0)) (group_plan self.now) }
     {
-        match self.plan.last() {
-            Some(x) => is_return(*x, self.production.visits(0)),
-            None => false,
-        }
+        let last = Instruction::Return(self.production.visits(0));
+        self.plan.last() == Some(&last)
     }
 
     pub(super) fn returns_in_order(&self) -> bool
-        ensures { Decides result (ReturnsStandInOrder (group_scope self.now) (group_plan self.now)) }
+        ensures { result ≡ passes ReturnsInOrder (group_scope self.now) (group_equations self.now) (group_plan self.now) }
     {
         self.in_order(0) && self.ends()
     }
 
     pub(super) fn visits_in_order(&self) -> bool
-        ensures { Decides result (VisitsStandInOrder (group_scope self.now) (group_plan self.now)) }
+        ensures { result ≡ passes VisitsInOrder (group_scope self.now) (group_equations self.now) (group_plan self.now) }
     {
-        for k in 0..self.production.right.len() {
-            if !self.in_order(k + 1) {
-                return false;
-            }
-        }
-        true
+        (0..self.production.right.len()).all(|k| self.in_order(k + 1))
     }
 }

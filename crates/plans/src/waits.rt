@@ -1,24 +1,15 @@
 // What the instructions of a plan wait for.
-ghost use Rattle.std.specs.Prelude.{◌≡◌, ◌≤◌, length, Some, Decides};
+ghost use Rattle.std.specs.Prelude.{◌≡◌, ◌≤◌, length, Some};
+ghost use Rattle.std.specs.List.{slice_get};
+ghost use Rattle.grammar.specs.Tests.{every_below};
+ghost use Rattle.grammar.specs.declared.refusal.PlanRule.TheVariants.{ArgumentsFirst};
 ghost use Rattle.plans.specs.Groups.{group_scope, group_equations, group_plan};
-ghost use Rattle.plans.specs.PlanRules.{segment_at, InheritedStandBeforeVisit, SynthesizedStandBeforeReturn, ArgumentsStandFirst};
-ghost use Rattle.plans.specs.PlanTests.{attribute_is, evaluated_before, known};
+ghost use Rattle.plans.specs.PlanRules.{segment_at};
+ghost use Rattle.plans.specs.PlanTests.{evaluated_before, flow_ready, known, known_at, passes};
 
 use super::Group;
-use super::scans::{evaluated, visited};
-use super::turns::turn_of;
+use super::scans::{evaluated, stands_before};
 use grammar::{Argument, Attribute, Flow, Instruction};
-
-// Whether an attribute has that flow and visit.
-fn has(attribute: Attribute, flow: Flow, visit: u16) -> bool
-    ensures { result ≡ attribute_is flow visit (Some attribute) }
-{
-    let flows = match attribute.flow {
-        Flow::Inherited => matches!(flow, Flow::Inherited),
-        Flow::Synthesized => matches!(flow, Flow::Synthesized),
-    };
-    flows && attribute.visit == visit
-}
 
 impl<'a> Group<'a> {
     // Whether each attribute of an occurrence with that flow and visit is evaluated before place `end`.
@@ -26,40 +17,54 @@ impl<'a> Group<'a> {
         requires { end ≤ length (group_plan self.now) }
         ensures { result ≡ evaluated_before (group_scope self.now) (group_plan self.now) end flow occurrence visit }
     {
-        for (a, attribute) in self.production.attributes(occurrence).iter().enumerate() {
-            if has(*attribute, flow, visit) && !evaluated(self.plan, end, occurrence, a) {
-                return false;
-            }
-        }
-        true
+        self.production
+            .attributes(occurrence)
+            .iter()
+            .enumerate()
+            .all(|(a, attribute)| {
+                *attribute != Attribute { flow, visit } || evaluated(self.plan, end, occurrence, a)
+            })
     }
 
-    // A visit waits for the inherited attributes that go down with it.
-    pub(super) fn inherited_before_visit(&self) -> bool
-        ensures { Decides result (InheritedStandBeforeVisit (group_scope self.now) (group_plan self.now)) }
+    // Whether what an instruction waits for is evaluated before place `end`, of the attributes with that flow. A visit
+    // waits for the inherited attributes that go down with it, a return for the synthesized ones that go up with it.
+    fn flow_ready(&self, end: usize, flow: Flow, x: Instruction) -> bool
+        requires { end ≤ length (group_plan self.now) }
+        ensures { result ≡ flow_ready flow (group_scope self.now) (group_plan self.now) end (Some x) }
     {
-        for (i, x) in self.plan.iter().enumerate() {
-            if let Instruction::Visit(k, j) = *x {
-                if !self.evaluated_before(i, Flow::Inherited, usize::from(k), j) {
-                    return false;
-                }
-            }
+        match (flow, x) {
+            (Flow::Inherited, Instruction::Visit(k, j)) => self.evaluated_before(
+                end,
+                flow,
+                usize::from(k),
+                j,
+            ),
+            (Flow::Synthesized, Instruction::Return(j)) => self.evaluated_before(end, flow, 0, j),
+            _ => true,
         }
-        true
     }
 
-    // A return waits for the synthesized attributes that go up with it.
-    pub(super) fn synthesized_before_return(&self) -> bool
-        ensures { Decides result (SynthesizedStandBeforeReturn (group_scope self.now) (group_plan self.now)) }
+    // Whether each instruction stands behind the evaluations that it waits for.
+    pub(super) fn all_ready(&self, flow: Flow) -> bool
+        ensures { result ≡ every_below (λ i. flow_ready flow (group_scope self.now) (group_plan self.now) i (slice_get (group_plan self.now) i)) (length (group_plan self.now)) }
     {
-        for (i, x) in self.plan.iter().enumerate() {
-            if let Instruction::Return(j) = *x {
-                if !self.evaluated_before(i, Flow::Synthesized, 0, j) {
-                    return false;
-                }
-            }
+        self.plan
+            .iter()
+            .enumerate()
+            .all(|(i, x)| self.flow_ready(i, flow, *x))
+    }
+
+    // Whether the values of a visit of an occurrence are known at a place that lies in that segment.
+    fn known_at(&self, place: usize, segment: usize, occurrence: u16, visit: u16) -> bool
+        requires within { place ≤ length (group_plan self.now) }
+        requires counted { segment ≡ segment_at (group_plan self.now) place }
+        ensures { result ≡ known_at (group_plan self.now) place occurrence visit }
+    {
+        if occurrence == 0 {
+            usize::from(visit) <= segment
+        } else {
+            stands_before(self.plan, place, Instruction::Visit(occurrence, visit))
         }
-        true
     }
 
     // Whether an argument is known at a place that lies in that segment.
@@ -71,9 +76,9 @@ impl<'a> Group<'a> {
         let Argument::Of(k, b) = argument else {
             return true;
         };
+        // A match, since behind `is_none_or` the proof lacks what the closure's call of `known_at` promises.
         match self.production.attribute(usize::from(k), usize::from(b)) {
-            Some(x) if k == 0 => usize::from(x.visit) <= segment,
-            Some(x) => visited(self.plan, place, k, x.visit),
+            Some(x) => self.known_at(place, segment, k, x.visit),
             None => true,
         }
     }
@@ -81,23 +86,26 @@ impl<'a> Group<'a> {
     // An evaluation waits for its arguments. Those from the left occurrence come with the segments, which the returns
     // end, so the returns are counted on the way.
     pub(super) fn arguments_first(&self) -> bool
-        ensures { Decides result (ArgumentsStandFirst (group_scope self.now) (group_equations self.now) (group_plan self.now)) }
+        ensures { result ≡ passes ArgumentsFirst (group_scope self.now) (group_equations self.now) (group_plan self.now) }
     {
         let mut returns = 0usize;
+        // The scans over instructions, equations and arguments are left by the label at the first violation.
         'check: {
             for (i, x) in self.plan.iter().enumerate() {
-                if let Instruction::Evaluate(o, a) = *x {
-                    for equation in self.equations {
-                        if equation.occurrence == o && equation.attribute == a {
-                            for argument in equation.arguments.as_slice() {
-                                if !self.known(i, returns + 1, *argument) {
-                                    break 'check false;
+                match *x {
+                    Instruction::Evaluate(o, a) => {
+                        for equation in self.equations {
+                            if equation.occurrence == o && equation.attribute == a {
+                                for argument in equation.arguments.as_slice() {
+                                    if !self.known(i, returns + 1, *argument) {
+                                        break 'check false;
+                                    }
                                 }
                             }
                         }
                     }
-                } else if turn_of(*x, 0).is_some() {
-                    returns += 1;
+                    Instruction::Visit(..) => {}
+                    Instruction::Return(_) => returns += 1,
                 }
             }
             true

@@ -5,10 +5,9 @@ use Rattle.std.specs.declared.alloc.Global.{Global}
 use Rattle.std.proofs.lemmas.List.{take_rest, drop_at, map_push}
 use Rattle.std.proofs.lemmas.Bool.{and_parts, and_from, leb-true, le-leb, ltb-true}
 use Rattle.grammar.specs.Forms.{all_of, instruction_word}
-use Rattle.grammar.specs.Rows.{equation_of}
+use Rattle.grammar.specs.Rows.{EquationRow, equation_of}
 use Rattle.grammar.specs.Tests.{every}
 use Rattle.grammar.specs.declared.rows.SymbolRow.{SymbolRow}
-use Rattle.grammar.specs.Rows.{EquationRow}
 use Rattle.grammar.specs.declared.terms.Instruction.{Instruction}
 use Rattle.grammar.specs.declared.refusal.Refusal.{Refusal}
 use Rattle.grammar.specs.declared.refusal.Refusal.TheVariants.{Range}
@@ -56,14 +55,11 @@ open_here t open' is =
     }
 
 -- the tables with one rule more
-pub closed_spans : (t : Tables) (plan : Vec Instruction Global) (rows : List RuleRow) (row : RuleRow) (o : Option Opened) → vec_len t.plan ≤ vec_len plan → o ≡ None → rows ≡ vec_items t.rules ++ row ∷ [] → row_fits (vec_len t.equations) (vec_len plan) row ≡ true → spans_fit (vec_len t.equations) (vec_len plan) rows o ≡ true
-closed_spans t plan rows row o grows none e fits =
+pub closed_spans : (t : Tables) (plan : Vec Instruction Global) (rows : List RuleRow) (row : RuleRow) (o : Option Opened) → vec_len t.plan ≤ vec_len plan → o ≡ None → rows ≡ vec_items t.rules ++ row ∷ [] → row.equations.end ≤ vec_len t.equations → row.plan.end ≤ vec_len plan → spans_fit (vec_len t.equations) (vec_len plan) rows o ≡ true
+closed_spans t plan rows row o grows none e within planned =
     let g = taken_out t plan o grows none in
     let p = and_parts (every (row_fits (vec_len t.equations) (vec_len plan)) (vec_items t.rules)) (open_fits (vec_len t.equations) o) g.spans in
-    and_from _ _ (ap (every (row_fits (vec_len t.equations) (vec_len plan))) e ∙ every_push _ (vec_items t.rules) row p.0 fits) p.1
-
-pub row_fits_lem : (n m : ℕ) (r : RuleRow) → r.equations.start ≤ r.equations.end → r.equations.end ≤ n → r.plan.start ≤ r.plan.end → r.plan.end ≤ m → row_fits n m r ≡ true
-row_fits_lem n m r a b c d = and_from _ _ (and_from _ _ (le-leb _ _ a) (le-leb _ _ b)) (and_from _ _ (le-leb _ _ c) (le-leb _ _ d))
+    and_from _ _ (ap (every (row_fits (vec_len t.equations) (vec_len plan))) e ∙ every_push _ (vec_items t.rules) row p.0 (and_from _ _ (le-leb _ _ within) (le-leb _ _ planned))) p.1
 
 -- the instructions that were read
 pub record PlanWords (ws : List Token) (was now : List Instruction) : Type 0 where
@@ -93,7 +89,7 @@ plan_judged t open' is ss es js opened s e j few =
     ∙ sym (ap (λ o. on_open (option_map (open_of (vec_items t.equations)) o) (λ p. failing (leb (vec_len t.plan + length is) 1024) Range (plan_fault (scope_in (state_of t) p) p.equations is))) opened)
 
 -- what the tables show after one rule more
-pub closed_rules : (t : Tables) (open' : Opened) (is plan : List Instruction) (rows : List RuleRow) (row : RuleRow) → t.opened ≡ Some open' → plan ≡ vec_items t.plan ++ is → rows ≡ vec_items t.rules ++ row ∷ [] → rule_of (vec_items t.equations) plan row ≡ record { left = open'.left; right = open'.right.items; equations = map equation_of (drop open'.start (vec_items t.equations)); plan = is } → (state_of t).rules ++ closed is (state_of t).opened ≡ map (rule_of (vec_items t.equations) plan) rows
+pub closed_rules : (t : Tables) (open' : Opened) (is plan : List Instruction) (rows : List RuleRow) (row : RuleRow) → t.opened ≡ Some open' → plan ≡ vec_items t.plan ++ is → rows ≡ vec_items t.rules ++ row ∷ [] → rule_of (vec_items t.equations) plan row ≡ record { left = open'.rule.left; right = open'.rule.right.items; equations = map equation_of (drop open'.start (vec_items t.equations)); plan = is } → (state_of t).rules ++ closed is (state_of t).opened ≡ map (rule_of (vec_items t.equations) plan) rows
 closed_rules t open' is plan rows row opened joins e shows =
     let es = vec_items t.equations in
     let p = and_parts (every (row_fits (vec_len t.equations) (vec_len t.plan)) (vec_items t.rules)) (open_fits (vec_len t.equations) t.opened) t.spans in

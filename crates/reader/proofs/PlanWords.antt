@@ -1,11 +1,10 @@
 -- The words of a plan that were read so far.
-use Rattle.std.proofs.Common.{◌≡◌, ◌+◌, ◌<◌, ◌≤◌, Bool, true, false, List, [], ◌∷◌, ◌++◌, length, Some, None, Ok, Err, MatchBool, sym, refl, ap, ◌∙◌, subst, append_assoc, append-nil, arith, length-append}
+use Rattle.std.proofs.Common.{◌≡◌, ◌+◌, ◌<◌, ◌≤◌, Bool, true, false, List, [], ◌∷◌, ◌++◌, length, Some, Ok, MatchBool, sym, ap, ◌∙◌, subst, append_assoc, arith, length-append}
 use Rattle.std.proofs.lemmas.List.{length_push}
 use Rattle.words.specs.Tokens.{Token}
 use Rattle.grammar.specs.Forms.{all_of, instruction_word}
 use Rattle.grammar.specs.declared.terms.Instruction.{Instruction}
-use Rattle.grammar.specs.declared.refusal.Refusal.TheVariants.{LineForm, Range}
-use Rattle.grammar.proofs.Taking.{Sofar, sofar_none, sofar_more, sofar_bad, sofar_done}
+use Rattle.grammar.proofs.Taking.{Sofar, sofar_more, sofar_done}
 use Rattle.reader.specs.PlanTable.{PlanRead}
 
 -- ws are the words that are left; the table was `was` and is `now`, with all that was read, or full
@@ -13,13 +12,6 @@ pub record PlannedSoFar (all ws : List Token) (was now : List Instruction) (many
   pub seen : List Instruction
   pub sofar : Sofar instruction_word all seen ws
   pub held : MatchBool many ((1024 < length was + length seen) × (1024 ≤ length now)) ((now ≡ was ++ seen) × (length now ≤ 1024))
-
-pub none_read : (all : List Token) (was : List Instruction) (many : Bool) → MatchBool many (1024 < length was) (length was ≤ 1024) → PlannedSoFar all all was was many
-none_read all was many h = record { seen = []; sofar = sofar_none instruction_word all; held = by many h }
-  where
-    by : (t : Bool) → MatchBool t (1024 < length was) (length was ≤ 1024) → MatchBool t ((1024 < length was + length {A = Instruction} []) × (1024 ≤ length was)) ((was ≡ was ++ []) × (length was ≤ 1024))
-    by true k = (omega arith, omega arith)
-    by false k = (sym (append-nil was), k)
 
 pub one_pushed : (all ls : List Token) (was now after : List Instruction) (many : Bool) (w : Token) (ws : List Token) (x : Instruction) → PlannedSoFar all ls was now many → ls ≡ w ∷ ws → Some x ≡ instruction_word w → length now < 1024 → after ≡ now ++ x ∷ [] → PlannedSoFar all ws was after many
 one_pushed all ls was now after many w ws x h e is few more = record { seen = h.seen ++ x ∷ []; sofar = sofar_more instruction_word all h.seen ls w ws x h.sofar e is; held = by many h.held }
@@ -34,12 +26,6 @@ one_over all ls was now many w ws x h e is full = record { seen = h.seen ++ x �
     by : (t : Bool) → MatchBool t ((1024 < length was + length h.seen) × (1024 ≤ length now)) ((now ≡ was ++ h.seen) × (length now ≤ 1024)) → (1024 < length was + length (h.seen ++ x ∷ [])) × (1024 ≤ length now)
     by true k = (omega (arith, length_push h.seen x), full)
     by false k = (omega (arith, length_push h.seen x, ap length k.0 ∙ length-append was h.seen), full)
-
-pub read_bad : (all ls : List Token) (was now : List Instruction) (many : Bool) (w : Token) (ws : List Token) → PlannedSoFar all ls was now many → ls ≡ w ∷ ws → None ≡ instruction_word w → PlanRead (Err LineForm) (all_of instruction_word all) was now
-read_bad all ls was now many w ws h e is = subst (λ o. PlanRead (Err LineForm) o was now) (sym (sofar_bad instruction_word all h.seen ls w ws h.sofar e is)) refl
-
-pub read_many : (all ls : List Token) (was now : List Instruction) → PlannedSoFar all ls was now true → ls ≡ [] → PlanRead (Err Range) (all_of instruction_word all) was now
-read_many all ls was now h e = subst (λ o. PlanRead (Err Range) o was now) (sym (sofar_done instruction_word all h.seen ls h.sofar e)) (refl, h.held.0)
 
 pub read_all : (all ls : List Token) (was now : List Instruction) → PlannedSoFar all ls was now false → ls ≡ [] → PlanRead (Ok tt) (all_of instruction_word all) was now
 read_all all ls was now h e =

@@ -1,11 +1,10 @@
 -- Parts of tables stay as they are while the tables grow.
-use Rattle.std.proofs.Common.{◌≡◌, ℕ, ◌-◌, ◌≤◌, true, leb, List, [], ◌∷◌, ◌++◌, map, length, take, drop, Some, None, Option, sym, refl, ap, ◌∙◌, append-nil, arith, length-drop}
+use Rattle.std.proofs.Common.{◌≡◌, ℕ, ◌-◌, ◌≤◌, true, List, [], ◌∷◌, ◌++◌, map, length, take, drop, Some, None, Option, sym, refl, ap, ◌∙◌, append-nil, arith, length-drop}
 use Rattle.std.specs.Option.{option_map}
 use Rattle.std.proofs.lemmas.List.{take-append-le, drop-append-le, map_push}
 use Rattle.std.proofs.lemmas.Bool.{and_parts, and_from, leb-true, le-leb}
-use Rattle.grammar.specs.Rows.{equation_of}
+use Rattle.grammar.specs.Rows.{EquationRow, equation_of}
 use Rattle.grammar.specs.Tests.{every}
-use Rattle.grammar.specs.Rows.{EquationRow}
 use Rattle.grammar.specs.declared.terms.Instruction.{Instruction}
 use Rattle.reader.specs.Spans.{span_fits, row_fits, open_fits, spans_fit}
 use Rattle.reader.specs.Steps.{add_to}
@@ -19,10 +18,10 @@ pub record Within (s : Span) (n : ℕ) : Type 0 where
   pub inside : s.end ≤ n
 
 pub within : (n : ℕ) (s : Span) → span_fits n s ≡ true → Within s n
-within n s h = let p = and_parts (leb s.start s.end) (leb s.end n) h in record { ordered = leb-true _ _ p.0; inside = leb-true _ _ p.1 }
+within n s h = record { ordered = s.ordered; inside = leb-true _ _ h }
 
 pub within_fits : (n : ℕ) (s : Span) → Within s n → span_fits n s ≡ true
-within_fits n s w = and_from _ _ (le-leb _ _ w.ordered) (le-leb _ _ w.inside)
+within_fits n s w = le-leb _ _ w.inside
 
 span_more : (n m : ℕ) (s : Span) → n ≤ m → span_fits n s ≡ true → span_fits m s ≡ true
 span_more n m s l h = let w = within n s h in within_fits m s (record { ordered = w.ordered; inside = omega arith })
@@ -61,13 +60,13 @@ rules_more es fs is js (r ∷ rows) h =
     let q = row_parts (length es) (length is) r p.0 in
     let e = part_more r.equations es fs q.0 in
     let f = part_more r.plan is js q.1 in
-    λ i. record { left = r.left; right = r.right.items; equations = map equation_of (e i); plan = f i } ∷ rules_more es fs is js rows p.1 i
+    λ i. record { left = r.rule.left; right = r.rule.right.items; equations = map equation_of (e i); plan = f i } ∷ rules_more es fs is js rows p.1 i
 
 -- the open rule gains the equation
 pub open_gains : (es : List EquationRow) (e : EquationRow) (o : Option Opened) → open_fits (length es) o ≡ true → option_map (open_of (es ++ e ∷ [])) o ≡ option_map (add_to (equation_of e)) (option_map (open_of es) o)
 open_gains es e None h = refl
 open_gains es e (Some o) h =
-    ap (λ l. Some (record { left = o.left; right = o.right.items; equations = l }))
+    ap (λ l. Some (record { left = o.rule.left; right = o.rule.right.items; equations = l }))
     (ap (map equation_of) (drop-append-le o.start es (e ∷ []) (leb-true _ _ h)) ∙ map_push equation_of (drop o.start es) e)
 
 -- what the tables show after one equation more

@@ -1,22 +1,23 @@
 -- From the fault of a line to the step that it makes.
-use Rattle.std.proofs.Common.{◌≡◌, ℕ, ◌<◌, ◌≤◌, Bool, true, false, ◌&&◌, ltb, leb, List, ◌∷◌, map, length, drop, Some, None, Ok, vec_items, vec_len, Option, Result, sym, refl, ap, ◌∙◌, arith}
+use Rattle.std.proofs.Common.{◌≡◌, ℕ, ◌<◌, ◌≤◌, Bool, true, false, ◌&&◌, ltb, leb, List, ◌∷◌, map, length, drop, Some, None, Ok, Err, vec_items, vec_len, Option, Result, sym, refl, ap, ◌∙◌, arith}
 use Rattle.std.specs.Option.{option_map}
+use Rattle.std.specs.Result.{result_err}
 use Rattle.std.proofs.lemmas.Bool.{ltb-true, lt-ltb, leb-true, le-leb, and_from}
 use Rattle.grammar.specs.Model.{Symbol, Equation}
-use Rattle.grammar.specs.Rows.{symbol_of, equation_of}
-use Rattle.grammar.specs.declared.rows.SymbolRow.{SymbolRow}
-use Rattle.grammar.specs.Rows.{EquationRow}
+use Rattle.grammar.specs.Rows.{EquationRow, symbol_of, equation_of}
+use Rattle.grammar.specs.Scopes.{scope_of}
+use Rattle.grammar.specs.declared.production.Production.{Production}
 use Rattle.grammar.specs.Tests.{every}
 use Rattle.grammar.specs.declared.terms.Attribute.{Attribute}
 use Rattle.grammar.specs.declared.refusal.Refusal.{Refusal}
 use Rattle.grammar.specs.declared.refusal.Refusal.TheVariants.{Range, Absent, Start}
 use Rattle.lines.specs.LineKinds.{Line}
 use Rattle.lines.specs.LineKinds.Line.{set_line}
-use Rattle.reader.specs.Views.{open_of, state_of}
+use Rattle.reader.specs.Views.{open_of, state_of, Stepped}
 use Rattle.reader.specs.declared.rows.Opened.{Opened}
 use Rattle.reader.specs.declared.tables.Tables.{Tables}
 use Rattle.lines.specs.Faults.{between1, starts, failing, symbol_fault, rule_fault, set_fault}
-use Rattle.reader.specs.Steps.{Open, State, scope_in, on_open, fault_of, after, unless_fault}
+use Rattle.reader.specs.Steps.{Open, State, Step, scope_in, on_open, fault_of, after, unless_fault}
 use Rattle.reader.specs.Steps.Step.{next, stop}
 use Rattle.reader.specs.Judgement.{on_line}
 
@@ -25,6 +26,11 @@ taken st r l e none = ap (on_line st) (sym e) ∙ ap (λ o. unless_fault o (afte
 
 pub refused : (st : State) (r : Result Line Refusal) (l : Line) (x : Refusal) → Ok l ≡ r → Some x ≡ fault_of st l → on_line st r ≡ stop x
 refused st r l x e some = ap (on_line st) (sym e) ∙ ap (λ o. unless_fault o (after st l)) (sym some)
+
+-- a step that a refusal stops
+pub stepped_err : (r : Result (Unit {0}) Refusal) (s : Step) (x : Refusal) (t : Tables) → result_err r ≡ Some x → s ≡ stop x → Stepped r s t
+stepped_err (Ok u) s x t e k = absurd (grind arith)
+stepped_err (Err y) s x t e k = let same : x ≡ y = cc in k ∙ ap stop same
 
 -- a symbol that is taken found room
 pub few_symbols : (ss : List Symbol) (v : ℕ) (xs : List Attribute) → None ≡ symbol_fault ss v xs → length ss < 32
@@ -47,9 +53,9 @@ failing_so : (t : Bool) (r : Refusal) (later : Option Refusal) → t ≡ true �
 failing_so t r later e = ap (λ b. failing b r later) e
 
 -- the fault of an equation, by the parts of the tables that it is judged from
-pub set_judged : (t : Tables) (open' : Opened) (e : Equation) (ss : List SymbolRow) (rs : List ℕ) (es : List EquationRow) → t.opened ≡ Some open' → ss ≡ vec_items t.symbols → rs ≡ open'.right.items → es ≡ drop open'.start (vec_items t.equations) → e.function ≤ 255 → vec_len t.equations < 512 → set_fault (record { symbols = map symbol_of ss; occurrences = open'.left ∷ rs }) (map equation_of es) e ≡ fault_of (state_of t) (set_line e)
-set_judged t open' e ss rs es is s r q small few =
-    (λ i. set_fault (record { symbols = map symbol_of (s i); occurrences = open'.left ∷ r i }) (map equation_of (q i)) e)
+pub set_judged : (t : Tables) (open' : Opened) (e : Equation) (p : Production) (es : List EquationRow) → t.opened ≡ Some open' → p.symbols.now ≡ vec_items t.symbols → p.left ≡ open'.rule.left → p.right.now ≡ open'.rule.right.items → es ≡ drop open'.start (vec_items t.equations) → e.function ≤ 255 → vec_len t.equations < 512 → set_fault (scope_of p) (map equation_of es) e ≡ fault_of (state_of t) (set_line e)
+set_judged t open' e p es is s l r q small few =
+    (λ i. set_fault (record { symbols = map symbol_of (s i); occurrences = l i ∷ r i }) (map equation_of (q i)) e)
     ∙ sym (failing_so (leb e.function 255 && ltb (vec_len t.equations) 512) Range _ (and_from _ _ (le-leb _ _ small) (lt-ltb _ _ few)))
     ∙ sym (ap (λ o. on_open (option_map (open_of (vec_items t.equations)) o) (λ p. failing (leb e.function 255 && ltb (vec_len t.equations) 512) Range (set_fault (scope_in (state_of t) p) p.equations e))) is)
 

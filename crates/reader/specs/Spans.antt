@@ -6,7 +6,7 @@ use Rattle.reader.specs.declared.rows.RuleRow.{RuleRow}
 use Rattle.reader.specs.declared.rows.Opened.{Opened}
 
 abbrev pub span_fits : ℕ → Span → Bool
-span_fits n s = nat_le s.start s.end && nat_le s.end n
+span_fits n s = nat_le s.end n
 
 abbrev pub row_fits : ℕ → ℕ → RuleRow → Bool
 row_fits equations plan r = span_fits equations r.equations && span_fits plan r.plan

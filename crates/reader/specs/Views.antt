@@ -3,10 +3,9 @@ use Rattle.std.specs.Prelude.{◌≡◌, ℕ, true, List, ◌∷◌, map, drop, 
 use Rattle.std.specs.List.{between}
 use Rattle.std.specs.Option.{option_map}
 use Rattle.grammar.specs.Model.{Rule}
-use Rattle.grammar.specs.Rows.{symbol_of, equation_of}
+use Rattle.grammar.specs.Rows.{EquationRow, symbol_of, equation_of}
 use Rattle.grammar.specs.Scopes.{Scope}
 use Rattle.grammar.specs.declared.rows.SymbolRow.{SymbolRow}
-use Rattle.grammar.specs.Rows.{EquationRow}
 use Rattle.grammar.specs.declared.terms.Instruction.{Instruction}
 use Rattle.grammar.specs.declared.refusal.Refusal.{Refusal}
 use Rattle.reader.specs.Judgement.{Outcome, grammar_in, whole}
@@ -23,14 +22,14 @@ abbrev pub part : {X : Type 0} → Span → List X → List X
 part s xs = between s.start s.end xs
 
 abbrev pub rule_of : List EquationRow → List Instruction → RuleRow → Rule
-rule_of es is r = record { left = r.left; right = r.right.items; equations = map equation_of (part r.equations es); plan = part r.plan is }
+rule_of es is r = record { left = r.rule.left; right = r.rule.right.items; equations = map equation_of (part r.equations es); plan = part r.plan is }
 
 abbrev pub open_of : List EquationRow → Opened → Open
-open_of es o = record { left = o.left; right = o.right.items; equations = map equation_of (drop o.start es) }
+open_of es o = record { left = o.rule.left; right = o.rule.right.items; equations = map equation_of (drop o.start es) }
 
 -- the symbols at the occurrences of the rule that is open
 abbrev pub open_scope : List SymbolRow → Opened → Scope
-open_scope symbols o = record { symbols = map symbol_of symbols; occurrences = o.left ∷ o.right.items }
+open_scope symbols o = record { symbols = map symbol_of symbols; occurrences = o.rule.left ∷ o.rule.right.items }
 
 abbrev pub rules_of : Tables → List Rule
 rules_of t = map (rule_of (vec_items t.equations) (vec_items t.plan)) (vec_items t.rules)

@@ -1,5 +1,6 @@
 // The plan line, which closes a rule.
 ghost use Rattle.std.specs.Prelude.{◌≡◌, ◌≤◌, map, vec_len, vec_capacity};
+ghost use Rattle.std.specs.Result.{result_err};
 ghost use Rattle.words.specs.Left.{left};
 ghost use Rattle.grammar.specs.Forms.{all_of, instruction_word};
 ghost use Rattle.grammar.specs.Rows.{equation_of};
@@ -11,8 +12,8 @@ ghost use Rattle.reader.specs.Views.{state_of, open_scope, Stepped};
 
 use super::rows::{Opened, RuleRow, Span};
 use super::tables::Tables;
-use grammar::{EquationRow, Instruction, Production, Refusal, Spelled, SymbolRow};
-use lines::plan_fault;
+use grammar::{EquationRow, Instruction, Refusal, Spelled, SymbolRow};
+use lines::check_plan;
 use plans::Group;
 use words::Words;
 
@@ -40,22 +41,17 @@ fn read_plan(mut words: Words<'_>, plan: &mut Vec<Instruction>) -> Result<(), Re
     Ok(())
 }
 
-// What is wrong with the plan of the rule that is open.
-fn open_fault<'a>(
+// Whether the rule that is open may have that plan.
+fn check_open<'a>(
     symbols: &'a [SymbolRow],
     open: &'a Opened,
     equations: &'a [EquationRow],
     plan: &'a [Instruction],
-) -> Option<Refusal>
-    ensures { result ≡ plan_fault (open_scope symbols.now «open».now) (map equation_of equations.now) plan.now }
+) -> Result<(), Refusal>
+    ensures { result_err result ≡ plan_fault (open_scope symbols.now «open».now) (map equation_of equations.now) plan.now }
 {
-    let production = Production {
-        symbols,
-        left: open.left,
-        right: open.right.as_slice(),
-    };
-    plan_fault(&Group {
-        production,
+    check_plan(&Group {
+        production: open.rule.production(symbols),
         equations,
         plan,
     })
@@ -65,36 +61,29 @@ impl Tables {
     pub(super) fn close_rule(&mut self, words: Words<'_>) -> Result<(), Refusal>
         ensures { Stepped result (on_line (state_of self.old) (plan_in (left words.entry))) self.new }
     {
-        let Some(open) = self.opened.take() else {
-            return Err(Refusal::LineForm);
-        };
+        let open = self.opened.take().ok_or(Refusal::LineForm)?;
         let before = self.plan.len();
         read_plan(words, &mut self.plan)?;
-        match open_fault(
+        check_open(
             &self.symbols,
             &open,
             &self.equations[open.start..],
             &self.plan[before..],
-        ) {
-            Some(refusal) => Err(refusal),
-            None => {
-                let Opened { left, right, start } = open;
-                let equations = Span {
-                    start,
-                    end: self.equations.len(),
-                };
-                let plan = Span {
-                    start: before,
-                    end: self.plan.len(),
-                };
-                self.rules.push_reserved(RuleRow {
-                    left,
-                    right,
-                    equations,
-                    plan,
-                });
-                Ok(())
-            }
-        }
+        )?;
+        let Opened { rule, start } = open;
+        let equations = Span {
+            start,
+            end: self.equations.len(),
+        };
+        let plan = Span {
+            start: before,
+            end: self.plan.len(),
+        };
+        self.rules.push_reserved(RuleRow {
+            rule,
+            equations,
+            plan,
+        });
+        Ok(())
     }
 }

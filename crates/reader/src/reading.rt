@@ -1,5 +1,5 @@
 // A text is read line by line.
-ghost use Rattle.std.specs.Prelude.{◌≡◌, ◌≤◌, length};
+ghost use Rattle.std.specs.Prelude.{◌≡◌, ◌≤◌, ◌==◌, ◌&&◌, length};
 ghost use Rattle.words.specs.Cuts.{parts_at};
 ghost use Rattle.words.specs.Left.{left};
 ghost use Rattle.words.specs.Tokens.{token_of};
@@ -11,6 +11,7 @@ use super::fault::Fault;
 use super::tables::Tables;
 use grammar::Refusal;
 use lines::Key;
+use plans::require;
 use words::{Line, Word, Words, cut};
 
 impl Tables {
@@ -33,12 +34,8 @@ impl Tables {
         let Word::Key(name) = first else {
             return Err(Refusal::LineForm);
         };
-        let Some(key) = Key::read(name) else {
-            return Err(Refusal::LineForm);
-        };
-        if !self.allows(key) {
-            return Err(Refusal::LineForm);
-        }
+        let key = Key::read(name).ok_or(Refusal::LineForm)?;
+        require(self.allows(key), Refusal::LineForm)?;
         self.read_words(key, words)
     }
 
@@ -46,19 +43,15 @@ impl Tables {
     fn read_line(&mut self, text: &[u8], number: u16) -> Result<(), Fault>
         ensures { LineRead result (judge_line (state_of self.old) text.now) number self.new }
     {
-        let Some(Line { key, words }) = Line::new(text, number) else {
-            return Err(Fault {
-                refusal: Refusal::LineForm,
-                line: number,
-            });
-        };
-        match self.read_keyed(key.word, words) {
-            Ok(()) => Ok(()),
-            Err(refusal) => Err(Fault {
+        let line = Line::new(text, number).ok_or(Fault {
+            refusal: Refusal::LineForm,
+            line: number,
+        })?;
+        self.read_keyed(line.key.word, line.words)
+            .map_err(|refusal| Fault {
                 refusal,
-                line: key.line,
-            }),
-        }
+                line: line.key.line,
+            })
     }
 
     // All lines of a text of a fair length, after what was read before.
@@ -66,6 +59,8 @@ impl Tables {
         requires { length text.now ≤ 32768 }
         ensures { TextRead result (judge_from 1 (state_of self.old) (parts_at 10 text.now)) self.new }
     {
+        // A loop, since the last part is no line: an iterator over the parts would have to tell it from the others, and
+        // its number is asked for behind them.
         let mut rest = text;
         let mut at = 1u16;
         while let Some((line, after)) = cut(rest, b'\n') {
@@ -73,19 +68,13 @@ impl Tables {
             rest = after;
             at += 1;
         }
-        if !rest.is_empty() {
-            return Err(Fault {
+        require(
+            self.ends_before(rest),
+            Fault {
                 refusal: Refusal::LineForm,
                 line: at,
-            });
-        }
-        if !self.is_whole() {
-            return Err(Fault {
-                refusal: Refusal::LineForm,
-                line: at,
-            });
-        }
-        Ok(())
+            },
+        )
     }
 
     // Whether the sheet may end here.
@@ -95,23 +84,30 @@ impl Tables {
         self.has_rules() && !self.is_open()
     }
 
+    // Whether the text may end here, where `rest` stands behind its last line.
+    fn ends_before(&self, rest: &[u8]) -> bool
+        ensures { result ≡ (length rest.now == 0 && whole (state_of self.now)) }
+    {
+        rest.is_empty() && self.is_whole()
+    }
+
     // The sheet that a text is, in place of what was there before; or its first fault, and then nothing is there.
     pub fn read(&mut self, text: &[u8]) -> Result<(), Fault>
         ensures { Answered result (judge text.now) self.new }
     {
         self.clear();
-        if text.is_empty() || text.len() > 32768 {
-            return Err(Fault {
+        let fair = !text.is_empty() && text.len() <= 32768;
+        require(
+            fair,
+            Fault {
                 refusal: Refusal::Length,
                 line: 0,
-            });
+            },
+        )?;
+        let answer = self.read_lines(text);
+        if answer.is_err() {
+            self.clear();
         }
-        match self.read_lines(text) {
-            Ok(()) => Ok(()),
-            Err(fault) => {
-                self.clear();
-                Err(fault)
-            }
-        }
+        answer
     }
 }

@@ -1,5 +1,6 @@
 // One line after another goes into the tables, or is refused.
 ghost use Rattle.std.specs.Prelude.{◌≡◌, not, length, is_some, IfOk};
+ghost use Rattle.std.specs.Result.{result_err};
 ghost use Rattle.words.specs.Left.{left};
 ghost use Rattle.lines.specs.Lines.{symbol_in, rule_in, set_in};
 ghost use Rattle.reader.specs.Steps.{nothing, is_empty, allowed, fault_of};
@@ -10,10 +11,9 @@ ghost use Rattle.reader.specs.Views.{state_of, Stepped};
 
 use super::rows::Opened;
 use super::tables::Tables;
-use grammar::{EquationRow, Production, Refusal};
-use lines::{
-    Key, RuleWords, SetWords, equation, equation_fault, rule, rule_fault, symbol, symbol_fault,
-};
+use grammar::{EquationRow, Refusal};
+use lines::{Key, SetWords, check_equation, check_rule, check_symbol, equation, rule, symbol};
+use plans::require;
 use std::alloc::{AllocError, Global};
 use words::Words;
 
@@ -89,73 +89,53 @@ impl Tables {
         ensures { Stepped result (on_line (state_of self.old) (symbol_in (left words.entry))) self.new }
     {
         let row = symbol(words)?;
-        match symbol_fault(&self.symbols, &row) {
-            Some(refusal) => Err(refusal),
-            None => {
-                self.symbols.push_reserved(row);
-                Ok(())
-            }
-        }
+        check_symbol(&self.symbols, &row)?;
+        self.symbols.push_reserved(row);
+        Ok(())
     }
 
     pub(super) fn open_rule(&mut self, words: Words<'_>) -> Result<(), Refusal>
         ensures { Stepped result (on_line (state_of self.old) (rule_in (left words.entry))) self.new }
     {
-        let row = rule(words)?;
-        match rule_fault(self.symbol_count(), self.rule_count(), &row) {
-            Some(refusal) => Err(refusal),
-            None => {
-                let RuleWords { left, right } = row;
-                self.opened = Some(Opened {
-                    left,
-                    right,
-                    start: self.equations.len(),
-                });
-                Ok(())
-            }
-        }
+        let rule = rule(words)?;
+        check_rule(self.symbol_count(), self.rule_count(), &rule)?;
+        self.opened = Some(Opened {
+            rule,
+            start: self.equations.len(),
+        });
+        Ok(())
     }
 
-    // What is wrong with an equation that comes next.
-    fn set_fault(&self, set: &SetWords) -> Option<Refusal>
-        ensures { result ≡ fault_of (state_of self.now) (set_line (set_of set.now)) }
+    // The function of an equation that comes next, if the equation may come.
+    fn check_set(&self, set: &SetWords) -> Result<u8, Refusal>
+        ensures fault { result_err result ≡ fault_of (state_of self.now) (set_line (set_of set.now)) }
+        ensures function { IfOk result (λ f. f ≡ set.now.function) }
     {
-        let Some(open) = &self.opened else {
-            return Some(Refusal::LineForm);
-        };
-        if set.function > 255 || self.equations.len() >= 512 {
-            return Some(Refusal::Range);
-        }
-        let production = Production {
-            symbols: &self.symbols,
-            left: open.left,
-            right: open.right.as_slice(),
-        };
-        equation_fault(production, &self.equations[open.start..], set)
+        let open = self.opened.as_ref().ok_or(Refusal::LineForm)?;
+        let function = u8::try_from(set.function).map_err(|_| Refusal::Range)?;
+        require(self.equations.len() < 512, Refusal::Range)?;
+        let production = open.rule.production(&self.symbols);
+        check_equation(production, &self.equations[open.start..], set)?;
+        Ok(function)
     }
 
     pub(super) fn add_equation(&mut self, words: Words<'_>) -> Result<(), Refusal>
         ensures { Stepped result (on_line (state_of self.old) (set_in (left words.entry))) self.new }
     {
         let set = equation(words)?;
-        match self.set_fault(&set) {
-            Some(refusal) => Err(refusal),
-            None => {
-                let SetWords {
-                    occurrence,
-                    attribute,
-                    function,
-                    arguments,
-                } = set;
-                let function = function as u8;
-                self.equations.push_reserved(EquationRow {
-                    occurrence,
-                    attribute,
-                    function,
-                    arguments,
-                });
-                Ok(())
-            }
-        }
+        let function = self.check_set(&set)?;
+        let SetWords {
+            occurrence,
+            attribute,
+            arguments,
+            ..
+        } = set;
+        self.equations.push_reserved(EquationRow {
+            occurrence,
+            attribute,
+            function,
+            arguments,
+        });
+        Ok(())
     }
 }

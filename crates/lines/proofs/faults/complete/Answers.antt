@@ -1,17 +1,16 @@
-use Rattle.std.proofs.Common.{suc, map, length, sym, ap, ◌∙◌, add-one, arith}
+use Rattle.std.proofs.Common.{◌≡◌, ℕ, suc, ◌+◌, Bool, not, ◌||◌, map, length, ap, ◌∙◌, rules, arith}
+use borrow.Author.Tests.{tests}
 use Rattle.grammar.specs.Rows.{equation_of}
-use Rattle.grammar.specs.Scopes.{scope_of}
-use Rattle.lines.proofs.Completing.{complete_at, below_not, below_first}
+use Rattle.grammar.specs.Scopes.{scope_of, defines, attributes_at}
+use Rattle.grammar.specs.Tests.{every_below}
+use Rattle.lines.specs.Faults.{has_target}
+use Rattle.plans.proofs.Chains.{below_asked}
 use Rattle.lines.proofs.faults.complete.Goals as goal
-
-pub returns-then-not-complete_at : goal.returns-then-not-complete_at
-returns-then-not-complete_at c =
-    let σ = scope_of c.args.production in
-    let es = map equation_of c.args.equations.now in
-    sym (below_not (complete_at σ es) (length σ.occurrences) (suc c.loop-k.k) (omega (arith, c.loop-k-test.true)) (ap (complete_at σ es) (sym (add-one c.loop-k.k)) ∙ sym c.if-not-complete_at.ensures))
 
 pub returns : goal.returns
 returns c =
     let σ = scope_of c.args.production in
-    let es = map equation_of c.args.equations.now in
-    c.complete_at-2.ensures ∙ below_first (complete_at σ es) (length c.args.production.right.now) (λ k l. c.loop-k.invariant k (omega (arith, c.loop-k-test.false)))
+    let test : ℕ → Bool = λ o. every_below (λ a. not (defines σ o a) || has_target (map equation_of c.args.equations.now) o a) (attributes_at σ o) in
+    let n = length c.args.production.right.now in
+    let next : n + 1 ≡ suc n = omega arith in
+    below_asked test (n + 1) _ _ _ c.all.ensures.ran (cc) (λ x b q k. search (rules, tests)) ∙ ap (every_below test) next

@@ -1,17 +1,17 @@
 use Rattle.std.proofs.Common.{◌+◌, sym, ap, ◌∙◌, subst, arith}
 use Rattle.std.specs.List.{AllByRecursion}
-use Rattle.std.proofs.lemmas.Bool.Decides.{Decides-at, not_from_Decides}
+use Rattle.std.proofs.lemmas.Bool.Decides.{Decides-at, not_from_Decides, same_from_decides}
 use Rattle.std.proofs.lemmas.List.Sums.{count_by_more_yes, count_by_more_no}
 use Rattle.grammar.specs.Rows.{equation_of}
 use Rattle.plans.specs.Groups.{group_scope, group_equations}
 use Rattle.plans.specs.PlanRules.{Known, is_return}
-use Rattle.plans.proofs.Deciding.{shown, refuted}
+use Rattle.plans.proofs.Deciding.{never, shown, refuted}
 use Rattle.plans.proofs.Places.{upto_more, upto_read, upto_all, upto_here, here_read, all_throughout, throughout_all}
 use Rattle.plans.proofs.Ready.{Follows, EvaluationReady, evaluation_from, evaluation_at, known_decides}
-use Rattle.plans.proofs.Telling.{arguments_from, arguments_at}
-use Rattle.plans.proofs.TurnOrder.{turn_return}
+use Rattle.plans.proofs.Telling.{arguments_from, arguments_at, tests_tell}
+use Rattle.grammar.specs.declared.refusal.PlanRule.TheVariants.{ArgumentsFirst}
 use Rattle.plans.proofs.Group.arguments_first.Goals as goal
-use Rattle.plans.proofs.Group.arguments_first.Goals.{in-Evaluate+else-loop-equation-test, in_default+then-is_some, in_default+else-is_some, then-equation-o+then-equation-a+else-loop-argument-test, else-equation-o, else-equation-o-via-then-equation-o+else-equation-a, else-equation-o-via-else-equation-o}
+use Rattle.plans.proofs.Group.arguments_first.Goals.{in-Evaluate+else-loop-equation-test, in-Visit, in-Return, then-equation-o+then-equation-a+else-loop-argument-test, else-equation-o, else-equation-o-via-then-equation-o+else-equation-a, else-equation-o-via-else-equation-o}
 
 pub loop-argument-preserved : goal.loop-argument-preserved
 loop-argument-preserved c =
@@ -47,14 +47,14 @@ loop-i-preserved c =
         w.returns-is ∙ c.loop-i.invariant.1 ∙ sym (count_by_more_no is_return plan i _ c.loop-i-test.true (ap is_return w.in-Evaluate.is)),
         omega arith,
       )
-      | in_default+then-is_some w ↦ (
-        ready (λ o a e. absurd (w.in_default.not-Evaluate o a e)),
-        w.returns-is ∙ ap (λ n. n + 1) c.loop-i.invariant.1 ∙ sym (count_by_more_yes is_return plan i _ c.loop-i-test.true (turn_return _ _ w.turn_of.ensures ∙ sym w.is_some.ensures ∙ w.if-is_some.true)),
+      | in-Visit w ↦ (
+        ready (λ o a e. let is = w.in-Visit.is in never (cc)),
+        w.returns-is ∙ c.loop-i.invariant.1 ∙ sym (count_by_more_no is_return plan i _ c.loop-i-test.true (ap is_return w.in-Visit.is)),
         omega arith,
       )
-      | in_default+else-is_some w ↦ (
-        ready (λ o a e. absurd (w.in_default.not-Evaluate o a e)),
-        w.returns-is ∙ c.loop-i.invariant.1 ∙ sym (count_by_more_no is_return plan i _ c.loop-i-test.true (turn_return _ _ w.turn_of.ensures ∙ sym w.is_some.ensures ∙ w.if-is_some.false)),
+      | in-Return w ↦ (
+        ready (λ o a e. let is = w.in-Return.is in never (cc)),
+        w.returns-is ∙ ap (λ n. n + 1) c.loop-i.invariant.1 ∙ sym (count_by_more_yes is_return plan i _ c.loop-i-test.true (ap is_return w.in-Return.is)),
         omega arith,
       )
     ]
@@ -65,12 +65,17 @@ returns-then-not-known c =
     let plan = c.args.self.now.plan.now in
     let rows = c.args.self.now.equations.now in
     let i = c.loop-i.i in
-    refuted λ h.
+    same_from_decides _ _
+    (refuted λ h.
     let ready = upto_here (EvaluationReady σ (group_equations c.args.self.now) plan) plan i _ c.loop-i-test.true (arguments_at σ (group_equations c.args.self.now) plan h) in
     let each = evaluation_at σ rows plan i _ c.in-Evaluate.o c.in-Evaluate.a c.in-Evaluate.is ready in
     let all = here_read _ rows c.loop-equation.equation-index c.equation-item.result c.loop-equation-test.true c.equation-item.is each (c.if-equation-o.true, c.if-equation-a.true) in
     let listed = all_throughout (Known σ plan i) c.as_slice-argument-items.result.now (subst (AllByRecursion (Known σ plan i)) (sym c.as_slice-argument-items.ensures.value) all) in
-    not_from_Decides _ (Decides-at _ _ c.known.ensures (known_decides σ plan i _)) c.if-not-known.true (upto_here (λ _ t. Known σ plan i t) c.as_slice-argument-items.result.now c.loop-argument.argument-index _ c.loop-argument-test.true listed)
+    not_from_Decides _ (Decides-at _ _ c.known.ensures (known_decides σ plan i _)) c.if-not-known.true (upto_here (λ _ t. Known σ plan i t) c.as_slice-argument-items.result.now c.loop-argument.argument-index _ c.loop-argument-test.true listed))
+    (tests_tell ArgumentsFirst σ (group_equations c.args.self.now) plan)
 
 pub returns-after-loop-i : goal.returns-after-loop-i
-returns-after-loop-i c = shown (arguments_from (group_scope c.args.self.now) (group_equations c.args.self.now) _ (upto_all _ _ _ c.loop-i-test.false c.loop-i.invariant.0))
+returns-after-loop-i c =
+    same_from_decides _ _
+    (shown (arguments_from (group_scope c.args.self.now) (group_equations c.args.self.now) _ (upto_all _ _ _ c.loop-i-test.false c.loop-i.invariant.0)))
+    (tests_tell ArgumentsFirst (group_scope c.args.self.now) (group_equations c.args.self.now) c.args.self.now.plan.now)

@@ -1,12 +1,16 @@
-use Rattle.std.proofs.Common.{◌≡◌, Decides, subst}
+use Rattle.std.proofs.Common.{Decides, arith}
+use Rattle.std.proofs.lemmas.Grind.{common_steps}
+use Rattle.std.proofs.lemmas.Bool.Decides.{same_from_decides}
+use Rattle.grammar.specs.Scopes.{visits_at}
 use Rattle.grammar.specs.declared.terms.Instruction.TheVariants.{Return}
-use Rattle.plans.proofs.Standing.{ends_some, ends_none}
+use Rattle.plans.specs.Groups.{group_scope}
+use Rattle.plans.specs.PlanRules.{EndsWith}
+use Rattle.plans.proofs.Standing.{ends_decides}
 use Rattle.plans.proofs.Group.ends.Goals as goal
 
-pub returns-in-Some : goal.returns-in-Some
-returns-in-Some c =
-    let item = c.in-Some.ensures.item in
-    ends_some _ _ _ _ item.3.0 item.1 (subst (λ v. Decides c.is_return.result (c.in-Some.x.now ≡ Return v)) c.visits.ensures c.is_return.ensures)
-
-pub returns-in-None : goal.returns-in-None
-returns-in-None c = ends_none _ _ c.in-None.ensures.item.3
+pub returns : goal.returns
+returns c =
+    let plan = c.args.self.now.plan.now in
+    let x = Return (visits_at (group_scope c.args.self.now) 0) in
+    let ends : Decides c.eq.result (EndsWith plan x) = grind (arith, common_steps) in
+    same_from_decides _ _ ends (ends_decides plan x)

@@ -1,9 +1,6 @@
 use Rattle.std.proofs.Common.{◌≡◌, ◌+◌, ◌<◌, false, drop, sym, ap, ◌∙◌, arith}
 use Rattle.std.specs.Str.{bytes_eq}
-use Rattle.std.proofs.lemmas.Bool.Decides.{Decides-at}
-use Rattle.grammar.specs.Scopes.{scope_of}
 use Rattle.plans.specs.PlanTests.{numbers_from, turns_of}
-use Rattle.plans.proofs.Telling.{order_decides}
 use Rattle.plans.proofs.TurnOrder.{order_from, order_none, order_other, order_more, order_wrong, order_over, order_end}
 use Rattle.plans.proofs.Group.in_order.Goals as goal
 use Rattle.plans.proofs.Group.in_order.Goals.{in-Some+else-done-visits+else-turn-done, in_default, then-done-visits-via-then-done-visits, then-done-visits-via-else-done-visits+then-turn-done}
@@ -40,10 +37,10 @@ returns-then-done-visits c =
       | then-done-visits-via-then-done-visits w ↦ order_over k n m plan i _ c.in-Some.turn c.loop-x-test.true c.in-Some.ensures (omega arith)
       | then-done-visits-via-else-done-visits+then-turn-done w ↦ order_wrong k n m plan i _ c.in-Some.turn c.loop-x-test.true c.in-Some.ensures (omega arith) w.if-turn-done.true
     ] in
-    Decides-at false _ (sym broken ∙ c.loop-x.invariant.0) (order_decides (scope_of c.args.self.now.production) plan k)
+    sym broken ∙ c.loop-x.invariant.0
 
 pub returns : goal.returns
 returns c =
     let plan = c.args.self.now.plan.now in
     let k = c.args.occurrence in
-    Decides-at _ _ (sym (order_end k c.visits-visits.result c.loop-x.done plan c.loop-x.x-index c.loop-x-test.false c.loop-x.invariant.1) ∙ c.loop-x.invariant.0) (order_decides (scope_of c.args.self.now.production) plan k)
+    sym (order_end k c.visits-visits.result c.loop-x.done plan c.loop-x.x-index c.loop-x-test.false c.loop-x.invariant.1) ∙ c.loop-x.invariant.0

@@ -9,11 +9,11 @@ use Rattle.reader.proofs.tables.Tables.add_symbol.Goals as goal
 
 pub push_reserved-requires : goal.push_reserved-requires
 push_reserved-requires c =
-    omega (arith, few_symbols (state_of c.args.self.now).symbols c.in_ok-row.row.visits c.in_ok-row.row.attributes.items (c.in-None.ensures ∙ ap (λ l. symbol_fault (map symbol_of l) c.in_ok-row.row.visits c.in_ok-row.row.attributes.items) c.deref.ensures.value), length-map (vec_items c.args.self.now.symbols) symbol_of, c.args.self.now.symbols.ok.0, c.args.self.now.symbol_room)
+    omega (arith, few_symbols (state_of c.args.self.now).symbols c.in_ok-row.row.visits c.in_ok-row.row.attributes.items (c.in_ok-check_symbol.ensures ∙ ap (λ l. symbol_fault (map symbol_of l) c.in_ok-row.row.visits c.in_ok-row.row.attributes.items) c.deref.ensures.value), length-map (vec_items c.args.self.now.symbols) symbol_of, c.args.self.now.symbols.ok.0, c.args.self.now.symbol_room)
 
-pub returns-in-None : goal.returns-in-None
-returns-in-None c =
+pub returns : goal.returns
+returns c =
     let st = state_of c.args.self.now in
-    taken st _ _ c.in_ok-row.ensures (c.in-None.ensures ∙ ap (λ l. symbol_fault (map symbol_of l) c.in_ok-row.row.visits c.in_ok-row.row.attributes.items) c.deref.ensures.value)
+    taken st _ _ c.in_ok-row.ensures (c.in_ok-check_symbol.ensures ∙ ap (λ l. symbol_fault (map symbol_of l) c.in_ok-row.row.visits c.in_ok-row.row.attributes.items) c.deref.ensures.value)
     ∙ ap (λ ss. next (record { symbols = ss; rules = st.rules; opened = st.opened; sets = st.sets; steps = st.steps }))
     (sym (ap (map symbol_of) c.push_reserved.ensures.items ∙ map_push symbol_of (vec_items c.args.self.now.symbols) c.in_ok-row.row))

@@ -1,0 +1,8 @@
+use Rattle.std.proofs.Common.{rules}
+use borrow.Author.Tests.{tests}
+use Rattle.lines.specs.Faults.{synthesizes}
+use Rattle.plans.proofs.Chains.{every_asked}
+use Rattle.lines.proofs.faults.synthesized.Goals as goal
+
+pub returns : goal.returns
+returns c = every_asked synthesizes c.args.symbol.now.attributes.items _ _ _ c.all.ensures.ran (cc) (λ x b q k. search (rules, tests))
