@@ -51,12 +51,14 @@ fn wake_inherited(sheet: &Sheet, places: &mut [Place], p: u16)
     let Some(group) = sheet.rule(usize::from(node.rule)) else {
         return;
     };
+    // Marks go by the numbers of attributes, so these are counted.
     for a in 0..16 {
         wake_if_inherited(&group.production, places, p, a);
     }
 }
 
-// Exchanges the subtree at target for the held block; a target without a parent stays as it is.
+// Exchanges the subtree at target for the held block; a target without a parent stays as it is. No type carries that
+// places are sound, since they stay so only where `Exchangeable` holds.
 pub fn exchange(sheet: &Sheet, places: &mut [Place], target: u16, held: u16)
     requires sound { SoundPlaces (grammar_of sheet.now) places.old }
     requires target { used places.old target ≡ true }

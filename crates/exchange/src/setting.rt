@@ -34,7 +34,7 @@ pub fn set_marks(places: &mut [Place], p: u16, marks: u16)
     *place = place.map(|node| Node { marks, ..node });
 }
 
-// Makes attribute a of the node at p owed.
+// Makes attribute a of the node at p owed. One function, given a change of marks, would have to ask what that promises.
 pub fn set_owed(places: &mut [Place], p: u16, a: u16)
     requires there { p < length places.old }
     requires few { a < 16 }

@@ -1,5 +1,5 @@
 // The instances that take others as arguments become owed.
-ghost use Rattle.std.specs.Prelude.{◌≡◌, ◌<◌, ◌≤◌, true, length, slice_index_or};
+ghost use Rattle.std.specs.Prelude.{◌≡◌, ◌<◌, true, length, slice_index_or};
 ghost use Rattle.grammar.specs.Rows.{equation_of};
 ghost use Rattle.grammar.specs.Tests.{some};
 ghost use Rattle.sheet.specs.Answers.{grammar_of};

@@ -27,7 +27,8 @@ pub fn parent_at(places: &[Place], p: usize) -> Option<Parent>
     (*places.get(p)?)?.parent
 }
 
-// Climbs at most 64 places; an error where it broke off.
+// Climbs at most 64 places; an error where it broke off. A chain of steps would have to pass on the place, the count and
+// whether there is more above.
 fn ascend(places: &[Place], p: usize) -> Result<Summit, Summit>
     ensures summit { MatchResult result (λ s. Climbed places.now p s) (λ s. Climbed places.now p s) }
     ensures ended { is_ok result ≡ climbs places.now 64 p }

@@ -9,6 +9,7 @@ pub fn is_owed(marks: u16, attribute: u16) -> bool
     attribute < 16 && (marks >> attribute) & 1 == 1
 }
 
+// The marks with an attribute owed. One function for both, by a flag, would only choose between these two bodies.
 pub fn with_owed(marks: u16, attribute: u16) -> u16
     requires { attribute < 16 }
     ensures { Turned marks attribute true result }
@@ -16,6 +17,7 @@ pub fn with_owed(marks: u16, attribute: u16) -> u16
     marks | (1 << attribute)
 }
 
+// The marks with an attribute not owed; past the sixteenth none is.
 pub fn without_owed(marks: u16, attribute: u16) -> u16
     ensures { Turned marks attribute false result }
 {

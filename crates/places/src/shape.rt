@@ -1,9 +1,7 @@
 // Whether a table of places is in shape.
-ghost use Rattle.std.specs.Prelude.{◌≡◌, ℕ, ◌^◌, ◌<◌, length, Some, Decides, slice_index};
-ghost use Rattle.grammar.specs.Scopes.{scope_of, attributes_at};
+ghost use Rattle.std.specs.Prelude.{ℕ, ◌^◌, ◌<◌, length, Some, Decides, slice_index};
 ghost use Rattle.sheet.specs.Answers.{grammar_of};
-ghost use Rattle.tour.specs.Rules.{rule};
-ghost use Rattle.places.specs.Places.{at, arity};
+ghost use Rattle.places.specs.Places.{at};
 ghost use Rattle.places.specs.declared.node.Node.{Node};
 ghost use Rattle.places.specs.Shape.{ChildThere, ParentThere, HangsBelow, RootThere, SoundNode, SoundPlace, SoundPlaces, InShape};
 
@@ -11,6 +9,8 @@ use super::climbing::{ends, node_at};
 use super::kinds::{arity_of, kind_of, left_of};
 use super::node::{Node, Parent, Place};
 use sheet::Sheet;
+
+// Sheet and places stay two parameters: through a struct's fields each clause below would read longer.
 
 // Whether a child hangs below that place as child number k, counted from 0, and has that symbol.
 fn child_is_there(sheet: &Sheet, p: usize, k: usize, symbol: u16, child: Place) -> bool
