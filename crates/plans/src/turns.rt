@@ -26,18 +26,8 @@ impl<'a> Group<'a> {
     fn in_order(&self, occurrence: usize) -> bool
         ensures { result ≡ in_order (group_scope self.now) (group_plan self.now) occurrence }
     {
-        // A loop, since the proof lacks the list that `1..=visits` gives, against which `eq` would compare the turns.
-        let visits = self.production.visits(occurrence);
-        let mut done = 0u16;
-        for x in self.plan {
-            if let Some(turn) = turn_of(*x, occurrence) {
-                if done == visits || turn != done + 1 {
-                    return false;
-                }
-                done += 1;
-            }
-        }
-        done == visits
+        let turns = self.plan.iter().filter_map(|x| turn_of(*x, occurrence));
+        turns.eq(1..=self.production.visits(occurrence))
     }
 
     // Whether the last instruction is the return from the left symbol's last visit.
