@@ -21,6 +21,7 @@ fn blank_row<V: Copy>(values: &mut [V], place: usize, count: usize, blank: V)
     ensures { values.new ≡ blank_row blank place count values.old }
 {
     let first = 16 * place;
+    // No `fill`, which asks that a clone cannot fail, and `Copy` alone does not say so.
     for value in &mut values[first..first + count] {
         *value = blank;
     }

@@ -66,7 +66,8 @@ struct Planter<'b, 's> {
 }
 
 impl<'b, 's> Planter<'b, 's> {
-    // Plants a row of that many trees, the first under that parent. The answer has the places of their roots.
+    // Plants a row of that many trees, the first under that parent. The answer has the places of their roots. It goes down
+    // the row as a forest is defined, one tree and the row beside it; a loop over the row would have to say that again.
     fn plant_row(
         &mut self,
         places: &mut [Place],

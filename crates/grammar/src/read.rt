@@ -1,6 +1,6 @@
 // What words say, and lists of such words.
 ghost use Rattle.std.specs.Prelude.{◌≡◌, Option};
-ghost use Rattle.words.specs.Tokens.{Token, token_of, number_of};
+ghost use Rattle.words.specs.Tokens.{Token, token_of, number_of, pair_word};
 ghost use Rattle.words.specs.Left.{left};
 ghost use Rattle.words.specs.Numbers.{number_in};
 ghost use Rattle.grammar.specs.Listed.{listed_in};
@@ -24,6 +24,14 @@ impl Spelled for u16 {
 
     fn read(word: Word<'_>) -> Option<u16> {
         word.number()
+    }
+}
+
+impl Spelled for (u16, u16) {
+    ghost spelled = { pair_word };
+
+    fn read(word: Word<'_>) -> Option<(u16, u16)> {
+        word.pair()
     }
 }
 

@@ -6,7 +6,7 @@ ghost use Rattle.lines.specs.Lines.{key_in, symbol_in, rule_in, set_in};
 ghost use Rattle.lines.specs.Read.{FirstRead, symbol_read, rule_read, set_read};
 
 use arrayvec::ArrayVec;
-use grammar::{Equation, Production, Refusal, SymbolRow, read_list};
+use grammar::{Equation, Production, Refusal, Spelled, SymbolRow, read_list};
 use words::Words;
 
 // The first word of a line says what kind of line it is.
@@ -57,23 +57,13 @@ impl RuleSymbols {
 // The words behind `set=`.
 pub type SetWords = Equation<u16>;
 
-// The number that the next word is.
-fn next_number(words: &mut Words<'_>) -> Result<u16, Refusal>
-    ensures { FirstRead number_of result (left words.old) (left words.new) }
+// What the next word says.
+fn next<T: Spelled>(words: &mut Words<'_>) -> Result<T, Refusal>
+    ensures { FirstRead T.Spelled.spelled result (left words.old) (left words.new) }
 {
     words
         .next()
-        .and_then(|next| next.word.number())
-        .ok_or(Refusal::LineForm)
-}
-
-// The pair of numbers that the next word is.
-fn next_pair(words: &mut Words<'_>) -> Result<(u16, u16), Refusal>
-    ensures { FirstRead pair_word result (left words.old) (left words.new) }
-{
-    words
-        .next()
-        .and_then(|next| next.word.pair())
+        .and_then(|placed| T::read(placed.word))
         .ok_or(Refusal::LineForm)
 }
 
@@ -82,7 +72,7 @@ pub fn symbol(mut words: Words<'_>) -> Result<SymbolRow, Refusal>
     ensures { symbol_read result ≡ symbol_in (left words.entry) }
 {
     Ok(SymbolRow {
-        visits: next_number(&mut words)?,
+        visits: next(&mut words)?,
         attributes: read_list(words)?,
     })
 }
@@ -91,7 +81,7 @@ pub fn rule(mut words: Words<'_>) -> Result<RuleSymbols, Refusal>
     ensures { rule_read result ≡ rule_in (left words.entry) }
 {
     Ok(RuleSymbols {
-        left: next_number(&mut words)?,
+        left: next(&mut words)?,
         right: read_list(words)?,
     })
 }
@@ -99,8 +89,8 @@ pub fn rule(mut words: Words<'_>) -> Result<RuleSymbols, Refusal>
 pub fn equation(mut words: Words<'_>) -> Result<SetWords, Refusal>
     ensures { set_read result ≡ set_in (left words.entry) }
 {
-    let (occurrence, attribute) = next_pair(&mut words)?;
-    let function = next_number(&mut words)?;
+    let (occurrence, attribute) = next(&mut words)?;
+    let function = next(&mut words)?;
     Ok(SetWords {
         occurrence,
         attribute,

@@ -9,7 +9,8 @@ mod tests {
     use std::process::Abort;
     use std::test::Fail;
 
-    // Days of blocks and clips, the text of examples/day.sheet.
+    // Days of blocks and clips, the text of examples/day.sheet, which code cannot read in as it is built; a crate of its
+    // own would only hold it and `day_sheet`.
     const DAY: &[u8] =
         b"symbol=1 S1\nsymbol=2 S1 I2 I2 S2\nrule=0 1\nset=0.0 1 1.3\nset=1.1 0\nset=1.2 6\nplan=v1.1 e1.1 e1.2 v1.2 e0.0 r1\nrule=1 1 1\nset=0.0 4 1.0 2.0\nset=0.3 1 2.3\nset=1.1 1 0.1\nset=1.2 4 2.0 0.2\nset=2.1 1 1.3\nset=2.2 1 0.2\nplan=v1.1 v2.1 e0.0 r1 e1.1 e1.2 v1.2 e2.1 e2.2 v2.2 e0.3 r2\nrule=1\nset=0.0 1 d\nset=0.3 3 0.1 d\nplan=e0.0 r1 e0.3 r2\n";
 

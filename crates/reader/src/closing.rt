@@ -14,31 +14,26 @@ use super::rows::{Opened, RuleRow, Span};
 use super::tables::Tables;
 use grammar::{EquationRow, Instruction, Refusal, Spelled, SymbolRow};
 use lines::check_plan;
-use plans::Group;
+use plans::{Group, require};
 use words::Words;
 
 // Adds the words of a plan to those that were read before, as long as there are at most 1,024.
-fn read_plan(mut words: Words<'_>, plan: &mut Vec<Instruction>) -> Result<(), Refusal>
+fn read_plan(words: Words<'_>, plan: &mut Vec<Instruction>) -> Result<(), Refusal>
     requires { 1024 ≤ vec_capacity plan.old }
     ensures read { PlanRead result (all_of instruction_word (left words.entry)) plan.old.items plan.new.items }
     ensures grows { vec_len plan.old ≤ vec_len plan.new }
     ensures capacity { vec_capacity plan.new ≡ vec_capacity plan.old }
 {
-    let mut many = plan.len() > 1024;
-    while let Some(placed) = words.next() {
-        let Some(instruction) = Instruction::read(placed.word) else {
-            return Err(Refusal::LineForm);
-        };
+    let mut fits = require(plan.len() <= 1024, Refusal::Range);
+    for placed in words {
+        let instruction = Instruction::read(placed.word).ok_or(Refusal::LineForm)?;
         if plan.len() < 1024 {
             plan.push_reserved(instruction);
         } else {
-            many = true;
+            fits = Err(Refusal::Range);
         }
     }
-    if many {
-        return Err(Refusal::Range);
-    }
-    Ok(())
+    fits
 }
 
 // Whether the rule that is open may have that plan.
