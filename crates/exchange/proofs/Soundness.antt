@@ -1,15 +1,12 @@
 -- What sound places give at one node.
-use Rattle.std.proofs.Common.{◌≡◌, ℕ, ◌≤◌, true, List, get_or, is_some, Some, None, Option, refl, subst, arith}
+use Rattle.std.proofs.Common.{◌≡◌, ℕ, true, List, get_or, is_some, Some, None, Option, refl, subst, arith}
 use Rattle.grammar.specs.Model.{Grammar}
-use Rattle.sheet.specs.Answers.{grammar_of}
-use Rattle.sheet.specs.declared.kept.Sheet.{Sheet}
 use Rattle.tour.specs.Rules.{rule}
 use Rattle.places.specs.Places.{at, used, parent_in, parent_at}
 use Rattle.places.specs.Shape.{ChildThere, ParentOf, ParentThere, HangsBelow, SoundPlaces}
 use Rattle.places.specs.declared.node.Node.{Node}
 use Rattle.places.specs.declared.node.Parent.{Parent}
 use Rattle.exchange.specs.Takers.{Fits, FitsThere, FitsAt}
-use Rattle.exchange.proofs.Sheets.{sound_sheet, rule_sound}
 use Rattle.exchange.proofs.Targets.{used_within}
 
 pub child_used : (g : Grammar) (p k x : ℕ) (m : Option Node) → ChildThere g p k x m → is_some m ≡ true
@@ -58,12 +55,3 @@ module _ (g : Grammar) (ps : List (Option Node)) (s : SoundPlaces g ps) where
       by : (x : Option Node) → at ps u.place ≡ x → ParentThere g p u.position x → Hangs g ps p u
       by None e c = absurd c
       by (Some m) e c = record { node = m; there = e; below = c }
-
--- a node of a sheet that was accepted has at most four children
-pub position_few : (sheet : Sheet) (ps : List (Option Node)) → SoundPlaces (grammar_of sheet) ps → (p : ℕ) (u : Parent) → Hangs (grammar_of sheet) ps p u → u.position ≤ 4
-position_few sheet ps s p u h =
-    let g = grammar_of sheet in
-    let r = (s.nodes u.place h.node h.there).rule_there in
-    let f = (rule_sound g h.node.rule (sound_sheet sheet h.node.rule r) r).few_right in
-    let l = h.below.last in
-    omega arith

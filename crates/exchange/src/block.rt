@@ -28,12 +28,10 @@ pub fn free_block(sheet: &Sheet, places: &mut [Place], block: u16, cells: &mut [
     ensures { Freed places.old places.new block }
 {
     let mut path = Pushdown::over(cells);
-    let _room = path.push(block);
+    path.push(block).unwrap();
     while let Some(p) = path.top() {
         match used_child(sheet, places, p) {
-            Some(child) => {
-                let _room = path.push(child);
-            }
+            Some(child) => path.push(child).unwrap(),
             None => {
                 places[usize::from(p)] = None;
                 path.pop();

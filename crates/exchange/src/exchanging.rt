@@ -17,11 +17,7 @@ use sheet::Sheet;
 
 // Hangs the held root where the node at target hung.
 fn hang(places: &mut [Place], target: u16, held: u16, parent: Parent)
-    requires target { target < length places.old }
-    requires held { held < length places.old }
-    requires parent { parent.place < length places.old }
-    requires first { 1 ≤ parent.position }
-    requires last { parent.position ≤ 4 }
+    requires { 1 ≤ parent.position }
     ensures { places.new ≡ hung_below places.old target held (Some parent) }
 {
     set_child(places, parent.place, parent.position - 1, held);
@@ -31,8 +27,7 @@ fn hang(places: &mut [Place], target: u16, held: u16, parent: Parent)
 
 // Makes attribute a of the node at p owed, if its rule takes it from above.
 fn wake_if_inherited(production: &Production, places: &mut [Place], p: u16, a: u16)
-    requires there { p < length places.old }
-    requires few { a < 16 }
+    requires { a < 16 }
     ensures { Woke places.old places.new (λ x. is_at p a x && takes (scope_of production.now) 0 a) }
 {
     if production.takes(0, usize::from(a)) {

@@ -5,39 +5,49 @@ ghost use Rattle.exchange.specs.Waking.{Woke, Slept, is_at};
 
 use places::{Node, Parent, Place, node_at, with_owed, without_owed};
 
+// A node with another child; one past the four is none.
+fn with_child(node: Node, k: u16, child: u16) -> Node
+    ensures { result ≡ with_child k child node }
+{
+    let mut children = node.children;
+    if k < 4 {
+        children[usize::from(k)] = child;
+    }
+    Node { children, ..node }
+}
+
+// Makes that place child number k, counted from 0.
 pub fn set_child(places: &mut [Place], p: u16, k: u16, child: u16)
-    requires there { p < length places.old }
-    requires few { k < 4 }
     ensures { places.new ≡ changed_at (with_child k child) places.old p }
 {
-    let place = &mut places[usize::from(p)];
-    *place = place.map(|node| {
-        let mut children = node.children;
-        children[usize::from(k)] = child;
-        Node { children, ..node }
-    });
+    let at = usize::from(p);
+    if at < places.len() {
+        places[at] = places[at].map(|node| with_child(node, k, child));
+    }
 }
 
 pub fn set_parent(places: &mut [Place], p: u16, parent: Option<Parent>)
-    requires { p < length places.old }
     ensures { places.new ≡ changed_at (with_parent parent) places.old p }
 {
-    let place = &mut places[usize::from(p)];
-    *place = place.map(|node| Node { parent, ..node });
+    let at = usize::from(p);
+    if at < places.len() {
+        places[at] = places[at].map(|node| Node { parent, ..node });
+    }
 }
 
 pub fn set_marks(places: &mut [Place], p: u16, marks: u16)
-    requires { p < length places.old }
     ensures { places.new ≡ changed_at (with_marks marks) places.old p }
 {
-    let place = &mut places[usize::from(p)];
-    *place = place.map(|node| Node { marks, ..node });
+    let at = usize::from(p);
+    if at < places.len() {
+        places[at] = places[at].map(|node| Node { marks, ..node });
+    }
 }
 
-// Makes attribute a of the node at p owed. One function, given a change of marks, would have to ask what that promises.
+// Makes attribute a of the node at p owed. With `clear_owed` in one function, which is given a change of marks, it would
+// have to ask what that change promises.
 pub fn set_owed(places: &mut [Place], p: u16, a: u16)
-    requires there { p < length places.old }
-    requires few { a < 16 }
+    requires { a < 16 }
     ensures { Woke places.old places.new (is_at p a) }
 {
     if let Some(node) = node_at(places, p) {
@@ -47,7 +57,6 @@ pub fn set_owed(places: &mut [Place], p: u16, a: u16)
 
 // Makes attribute a of the node at p not owed.
 pub fn clear_owed(places: &mut [Place], p: u16, a: u16)
-    requires { p < length places.old }
     ensures { Slept places.old places.new (is_at p a) }
 {
     if let Some(node) = node_at(places, p) {

@@ -40,8 +40,7 @@ fn takes(equation: &EquationRow, from: Taken) -> bool
 
 // Makes the target of an equation of the rule at p owed, if it takes an argument from there.
 fn wake_target(places: &mut [Place], p: u16, node: Node, equation: &EquationRow, from: Taken)
-    requires attribute { equation.now.attribute < 16 }
-    requires there { at_of p node.children equation.now.occurrence < length places.old }
+    requires { equation.now.attribute < 16 }
     ensures { Woke places.old places.new (wakes (at_of p node.children) from (equation_of equation.now)) }
 {
     if takes(equation, from) {

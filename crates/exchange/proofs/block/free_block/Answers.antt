@@ -1,4 +1,4 @@
-use Rattle.std.proofs.Common.{◌≡◌, ◌-◌, ◌<◌, [], ◌∷◌, ◌++◌, length, set, None, sym, ap, ◌∙◌, subst, ap₂, arith, lt-ltb, if◌then◌else◌, Ok, Err}
+use Rattle.std.proofs.Common.{◌≡◌, ◌-◌, ◌<◌, [], ◌∷◌, ◌++◌, length, set, None, sym, ap, ◌∙◌, subst, ap₂, arith, lt-ltb, if◌then◌else◌, Ok, Err, is_ok}
 use Rattle.std.proofs.lemmas.List.{length-take-le}
 use Rattle.sheet.specs.Answers.{grammar_of}
 use Rattle.places.specs.Stack.{stacked}
@@ -6,15 +6,21 @@ use Rattle.exchange.proofs.Blocks.{Freeing, last, freeing_starts, went_down, let
 use Rattle.exchange.proofs.Targets.{used_within}
 use Rattle.exchange.proofs.block.free_block.Goals as goal
 
+pub unwrap-requires : goal.unwrap-requires
+unwrap-requires c =
+    let l = ap length c.over-path.ensures.cells in
+    let r = c.requires.room in
+    let none = c.over-path.ensures.empty in
+    ap is_ok c.push.ensures.room ∙ ap (λ b. is_ok (if b then Ok tt else Err c.args.block)) (lt-ltb _ _ (omega arith))
+
 pub loop-p-init : goal.loop-p-init
 loop-p-init c =
     let cells = c.over-path.ensures.cells in
     let none = c.over-path.ensures.empty in
-    let room : c.push-room.result ≡ Ok tt = c.push-room.ensures.room ∙ ap (λ b. (if b then Ok tt else Err c.args.block)) (lt-ltb _ _ (let l = ap length cells in let r = c.requires.room in omega arith)) in
-    let st : stacked c.push-room.new.self.cells.now c.push-room.new.self.len ≡ c.args.block ∷ [] = (rw room at c.push-room.ensures.stack) ∙ ap (λ n. stacked c.over-path.result.cells.now n ++ c.args.block ∷ []) none in
-    ((let l = ap length cells in let k = c.push-room.ensures.cells in let r = c.requires.room in omega arith), subst (Freeing c.args.places.now c.args.places.now c.args.block) (sym st) (freeing_starts (grammar_of c.args.sheet.now) c.args.places.now c.requires.sound c.args.block c.requires.there c.requires.top))
+    let st : stacked c.push.new.self.cells.now c.push.new.self.len ≡ c.args.block ∷ [] = (rw c.unwrap.ensures at c.push.ensures.stack) ∙ ap (λ n. stacked c.over-path.result.cells.now n ++ c.args.block ∷ []) none in
+    ((let l = ap length cells in let k = c.push.ensures.cells in let r = c.requires.room in omega arith), subst (Freeing c.args.places.now c.args.places.now c.args.block) (sym st) (freeing_starts (grammar_of c.args.sheet.now) c.args.places.now c.requires.sound c.args.block c.requires.there c.requires.top))
 
-module _ (c : goal.After-push-room-in-Some-used_child) where
+module _ (c : goal.After-push-in-Some-used_child) where
   down : (length (stacked c.loop-p.path.cells.now (c.loop-p.path.len - 1) ++ c.in-Some.p ∷ []) < 64) × Freeing c.args.places.now c.loop-p.places c.args.block ((stacked c.loop-p.path.cells.now (c.loop-p.path.len - 1) ++ c.in-Some.p ∷ []) ++ c.in-Some-used_child.child ∷ [])
   down =
       let f = subst (Freeing c.args.places.now c.loop-p.places c.args.block) c.in-Some.ensures c.loop-p.invariant.1 in
@@ -27,16 +33,19 @@ module _ (c : goal.After-push-room-in-Some-used_child) where
       let d = length-take-le c.loop-p.path.len c.loop-p.path.cells.now c.loop-p.path.ok in
       omega arith
 
-  pushed : c.push-room-in-Some-used_child.result ≡ Ok tt
-  pushed = c.push-room-in-Some-used_child.ensures.room ∙ ap (λ b. (if b then Ok tt else Err c.in-Some-used_child.child)) (lt-ltb _ _ (let a = few in let b = c.loop-p.invariant.0 in omega arith))
+pub unwrap-requires-in-Some-used_child : goal.unwrap-requires-in-Some-used_child
+unwrap-requires-in-Some-used_child c =
+    let a = few c in
+    let b = c.loop-p.invariant.0 in
+    ap is_ok c.push-in-Some-used_child.ensures.room ∙ ap (λ b. is_ok (if b then Ok tt else Err c.in-Some-used_child.child)) (lt-ltb _ _ (omega arith))
 
 pub loop-p-smaller-in-Some-used_child : goal.loop-p-smaller-in-Some-used_child
-loop-p-smaller-in-Some-used_child c = let a = few c in let b = rw (pushed c) at c.push-room-in-Some-used_child.ensures.len in omega arith
+loop-p-smaller-in-Some-used_child c = let a = few c.before in let b = rw c.unwrap-in-Some-used_child.ensures at c.push-in-Some-used_child.ensures.len in omega arith
 
 pub loop-p-preserved-in-Some-used_child : goal.loop-p-preserved-in-Some-used_child
 loop-p-preserved-in-Some-used_child c =
-    let st = (rw (pushed c) at c.push-room-in-Some-used_child.ensures.stack) ∙ ap (λ z. z ++ c.in-Some-used_child.child ∷ []) c.in-Some.ensures in
-    ((let a = c.push-room-in-Some-used_child.ensures.cells in let b = c.loop-p.invariant.0 in omega arith), subst (Freeing c.args.places.now c.loop-p.places c.args.block) (sym st) (down c).1)
+    let st = (rw c.unwrap-in-Some-used_child.ensures at c.push-in-Some-used_child.ensures.stack) ∙ ap (λ z. z ++ c.in-Some-used_child.child ∷ []) c.in-Some.ensures in
+    ((let a = c.push-in-Some-used_child.ensures.cells in let b = c.loop-p.invariant.0 in omega arith), subst (Freeing c.args.places.now c.loop-p.places c.args.block) (sym st) (down c.before).1)
 
 pub bounds-places-from : goal.bounds-places-from
 bounds-places-from c =

@@ -3,7 +3,7 @@ use Rattle.sheet.specs.Answers.{grammar_of}
 use Rattle.places.specs.Places.{at, parent_at}
 use Rattle.exchange.proofs.Hanging.{EveryFits, hung_fits, hung_used, remarked_fits, exchanged}
 use Rattle.exchange.proofs.Marking.{remarked_used}
-use Rattle.exchange.proofs.Soundness.{sound_fits_at, hangs, position_few}
+use Rattle.exchange.proofs.Soundness.{sound_fits_at, hangs}
 use Rattle.exchange.proofs.Targets.{used_within}
 use Rattle.exchange.proofs.exchanging.exchange.Goals as goal
 
@@ -13,14 +13,7 @@ hang-requires c =
     let ps = c.args.places.now in
     let u = c.in-Some.parent in
     let e : parent_at ps c.args.target ≡ Some u = search rules in
-    let h = hangs g ps c.requires.sound c.args.target u e in
-    record {
-      target = used_within ps c.args.target c.requires.target;
-      held = used_within ps c.args.held c.requires.held;
-      parent = used_within ps u.place (ap is_some h.there);
-      first = h.below.first;
-      last = position_few c.args.sheet.now ps c.requires.sound c.args.target u h;
-    }
+    (hangs g ps c.requires.sound c.args.target u e).below.first
 
 pub wake_inherited-requires : goal.wake_inherited-requires
 wake_inherited-requires c =

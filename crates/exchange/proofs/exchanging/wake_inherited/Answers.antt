@@ -13,7 +13,7 @@ use Rattle.exchange.specs.Waking.{is_at}
 use Rattle.exchange.proofs.Flows.{taken_left, inherited_more, inherited_all}
 use Rattle.exchange.proofs.Marking.{woke_more, woke_as}
 use Rattle.exchange.proofs.Sheets.{sound_sheet, few_attributes}
-use Rattle.exchange.proofs.Targets.{rule_there, used_within, fits_used}
+use Rattle.exchange.proofs.Targets.{rule_there}
 use Rattle.exchange.proofs.exchanging.wake_inherited.Goals as goal
 
 pub returns-in_default-rule : goal.returns-in_default-rule
@@ -23,12 +23,6 @@ returns-in_default-rule c =
     let e : at ps c.args.p ≡ Some c.in-Some.node = search rules in
     let f : Fits g ps c.in-Some.node = subst (FitsThere g ps) e c.requires in
     absurd (rule_there g c.in-Some.node.rule f.rule_there (search rules))
-
-pub wake_if_inherited-requires : goal.wake_if_inherited-requires
-wake_if_inherited-requires c =
-    let h = used_within c.args.places.now c.args.p (fits_used (grammar_of c.args.sheet.now) c.args.places.now c.args.p c.requires) in
-    let l = c.loop-a.invariant.long in
-    record { there = omega arith; few = omega arith }
 
 pub loop-a-preserved : goal.loop-a-preserved
 loop-a-preserved c =
