@@ -16,7 +16,8 @@ use Rattle.exchange.specs.Setting.{with_child, with_parent, changed_at}
 use Rattle.exchange.proofs.Fields.{changed_here, changed_else, changed_keeps}
 use Rattle.exchange.proofs.Sheets.{rule_sound}
 use Rattle.exchange.proofs.Soundness.{hangs}
-use Rattle.exchange.proofs.Targets.{length_firsts, kids_length, kids_at}
+use Rattle.exchange.proofs.Targets.{kids_length, kids_at}
+use Rattle.places.proofs.Firsts.{length_firsts}
 
 -- a change that keeps what is looked at
 pub keeps : {X : Type 0} (look : Option Node → X) (f : Node → Node) → ((x : Option Node) → look (option_map f x) ≡ look x) → (ps : List (Option Node)) (p q : ℕ) → look (at (changed_at f ps p) q) ≡ look (at ps q)

@@ -1,5 +1,5 @@
 -- The targets of a rule's equations at a node.
-use Rattle.std.proofs.Common.{◌≡◌, ℕ, zero, suc, ◌+◌, ◌<◌, ◌≤◌, Bool, true, false, ◌&&◌, ◌||◌, ltb, List, [], ◌∷◌, map, length, get_or, take, drop, is_some, Some, None, Option, sym, refl, ap, ◌∙◌, ap₂, subst, add-one, one-add, arith, get_or-drop, ltb-false, ltb-true}
+use Rattle.std.proofs.Common.{◌≡◌, ℕ, zero, suc, ◌+◌, ◌<◌, ◌≤◌, Bool, true, false, ◌&&◌, ◌||◌, ltb, List, [], ◌∷◌, map, length, get_or, take, drop, is_some, Some, None, Option, sym, refl, ap, ◌∙◌, ap₂, subst, add-one, arith, ltb-false, ltb-true}
 use Rattle.std.specs.Option.{option_map}
 use Rattle.std.specs.List.{slice_get, range_with_len}
 use Rattle.std.proofs.lemmas.Option.{slice_get-get_or}
@@ -20,6 +20,7 @@ use Rattle.exchange.specs.Waking.{is_at}
 use Rattle.exchange.specs.declared.taken.Taken.{Taken}
 use Rattle.exchange.proofs.Sheets.{equation_sound, few_attributes, defined_standing, nth_is}
 use Rattle.exchange.proofs.Somes.{some_more}
+use Rattle.places.proofs.Firsts.{firsts_at, length_firsts, at_of_firsts}
 
 -- a used place is in the table
 pub used_within : (ps : List (Option Node)) (p : ℕ) → used ps p ≡ true → p < length ps
@@ -35,19 +36,6 @@ fits_used g ps p = by (at ps p)
     by : (x : Option Node) → FitsThere g ps x → is_some x ≡ true
     by None f = absurd f
     by (Some n) f = refl
-
-pub firsts_at : (n k : ℕ) (cs : List ℕ) → k < n → get_or (firsts n cs) k 0 ≡ get_or cs k 0
-firsts_at zero k cs h = absurd (omega arith)
-firsts_at (suc n) zero cs h = refl
-firsts_at (suc n) (suc k) cs h = firsts_at n k (drop 1 cs) (omega arith) ∙ get_or-drop 1 cs k 0 ∙ ap (λ i. get_or cs i 0) (one-add k)
-
-pub length_firsts : (n : ℕ) (cs : List ℕ) → length (firsts n cs) ≡ n
-length_firsts zero cs = refl
-length_firsts (suc n) cs = ap suc (length_firsts n (drop 1 cs))
-
-pub at_of_firsts : (p n o : ℕ) (cs : List ℕ) → o ≤ n → at_of p (firsts n cs) o ≡ at_of p cs o
-at_of_firsts p n zero cs h = refl
-at_of_firsts p n (suc k) cs h = firsts_at n k cs (omega arith)
 
 -- an equation of the rule of the node n at p, ready to be looked at
 pub record Ready (g : Grammar) (ps : List (Option Node)) (p : ℕ) (n : Node) (e : EquationRow) : Type 0 where

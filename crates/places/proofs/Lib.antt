@@ -1,3 +1,4 @@
+pub mod Firsts
 pub mod Digits
 pub mod Ascents
 pub mod Looks

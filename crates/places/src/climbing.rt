@@ -1,5 +1,5 @@
 // Climbing from a place to the parents above it.
-ghost use Rattle.std.specs.Prelude.{◌≡◌, is_ok, Decides, MatchResult};
+ghost use Rattle.std.specs.Prelude.{◌≡◌, ◌<◌, is_ok, Decides, MatchResult};
 ghost use Rattle.places.specs.Climbs.{Climbed};
 ghost use Rattle.places.specs.Places.{at, parent_at};
 ghost use Rattle.places.specs.Shape.{climbs, InTree, Held};
@@ -32,6 +32,7 @@ pub fn parent_at(places: &[Place], p: usize) -> Option<Parent>
 fn ascend(places: &[Place], p: usize) -> Result<Summit, Summit>
     ensures summit { MatchResult result (λ s. Climbed places.now p s) (λ s. Climbed places.now p s) }
     ensures ended { is_ok result ≡ climbs places.now 64 p }
+    ensures fits { MatchResult result (λ s. p < 65536 → s.top < 65536) (λ s. p < 65536 → s.top < 65536) }
 {
     let mut top = p;
     for above in 0..64 {
@@ -48,7 +49,8 @@ fn ascend(places: &[Place], p: usize) -> Result<Summit, Summit>
 
 // Climbs at most 64 places.
 pub fn climb(places: &[Place], p: usize) -> Summit
-    ensures { Climbed places.now p result }
+    ensures climbed { Climbed places.now p result }
+    ensures fits { p < 65536 → result.top < 65536 }
 {
     match ascend(places, p) {
         Ok(summit) | Err(summit) => summit,

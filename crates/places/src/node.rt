@@ -1,6 +1,7 @@
 // What places hold.
-ghost use Rattle.std.specs.Prelude.{◌≡◌, slice_index};
+ghost use Rattle.std.specs.Prelude.{◌≡◌, ℕ, ◌≤◌, slice_index};
 ghost use Rattle.tour.specs.Trees.{at_of};
+ghost use Rattle.places.specs.Places.{firsts};
 
 // Where a node hangs: the place of its parent, and which of the parent's children it is, counted from 1.
 #[derive(Clone, Copy, Debug, PartialEq, Eq)]
@@ -33,7 +34,8 @@ impl Node {
 
     // Where an occurrence of the rule stands: occurrence 0 at the node's own place, the others at its children.
     pub fn occurrence_place(&self, place: u16, occurrence: u16) -> u16
-        ensures { result ≡ at_of place self.now.children occurrence }
+        ensures place { result ≡ at_of place self.now.children occurrence }
+        ensures among { (count : ℕ) → occurrence ≤ count → result ≡ at_of place (firsts count self.now.children) occurrence }
     {
         match occurrence {
             0 => place,
