@@ -39,6 +39,8 @@ pub enum Layer {
     OfPlan,
 }
 
+// The numbers are no discriminants: `Refusal` carries a rule and so cannot have them, and two ways of numbering side by
+// side would be no plainer.
 impl From<PlanRule> for u8 {
     ghost from_gives = { λ rule n. n ≡ rule_number rule };
 
