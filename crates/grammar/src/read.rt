@@ -95,6 +95,7 @@ pub fn read_list<T: Spelled + Default, const N: usize>(
     ensures { listed_in result ≡ at_most N (all_of T.Spelled.spelled (left words.entry)) }
 {
     let mut list = ArrayVec::new();
+    // Carried beside the list, since a word of wrong form further on is told before too many words.
     let mut fits = Ok(());
     for placed in words {
         let item = T::read(placed.word).ok_or(Refusal::LineForm)?;

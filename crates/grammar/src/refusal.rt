@@ -39,6 +39,8 @@ pub enum Layer {
     OfPlan,
 }
 
+// The numbers are no discriminants: `Refusal` carries a rule and so cannot have them, and two ways of numbering side by
+// side would be no plainer.
 impl From<PlanRule> for u8 {
     ghost from_gives = { λ rule n. n ≡ rule_number rule };
 
@@ -79,6 +81,28 @@ impl From<PlanRule> for Refusal {
     }
 }
 
+impl PlanRule {
+    // One plain sentence that says how a plan breaks the rule.
+    pub fn sentence(self) -> &'static str
+        ensures { result.now ≡ plan_sentence self }
+    {
+        match self {
+            PlanRule::ReturnsInOrder =>
+                "The returns of this plan are not r1 up to the last visit of the rule's left symbol, in order, with the last one at the end.",
+            PlanRule::OneEvaluation =>
+                "An attribute that the rule defines is not evaluated exactly once in this plan, or another one is evaluated.",
+            PlanRule::VisitsInOrder =>
+                "The visits to some right occurrence do not all stand in this plan once each, in order.",
+            PlanRule::InheritedBeforeVisit =>
+                "A visit stands in this plan before the evaluation of an inherited attribute that goes down with it.",
+            PlanRule::SynthesizedBeforeReturn =>
+                "A return stands in this plan before the evaluation of a synthesized attribute that goes up with it.",
+            PlanRule::ArgumentsFirst =>
+                "An evaluation stands in this plan before the visit that gives one of its arguments, or in an earlier segment than the argument's.",
+        }
+    }
+}
+
 impl Refusal {
     pub fn layer(self) -> Layer
         ensures { result ≡ layer_of self }
@@ -88,6 +112,28 @@ impl Refusal {
             Refusal::Absent | Refusal::Start | Refusal::Target | Refusal::BadArgument =>
                 Layer::OfGrammar,
             Refusal::Plan(_) => Layer::OfPlan,
+        }
+    }
+
+    // One plain sentence that says what is wrong.
+    pub fn sentence(self) -> &'static str
+        ensures { result.now ≡ refusal_sentence self }
+    {
+        match self {
+            Refusal::Length => "A sheet has 1 to 32,768 bytes; this text has none, or more.",
+            Refusal::LineForm =>
+                "This line has not the form of a sheet's line, or may not stand here; or the text ends early.",
+            Refusal::Range =>
+                "A number in this line is outside its range, or there are too many symbols, rules, right symbols, attributes, arguments, sets or instructions.",
+            Refusal::Absent =>
+                "This line names a symbol, an occurrence, an attribute or a visit that is not there.",
+            Refusal::Start =>
+                "The first symbol is the start: it has one visit and no inherited attribute.",
+            Refusal::Target =>
+                "An equation here is for an attribute that the rule does not define or that has one already; or, at a plan, an attribute that the rule defines has no equation.",
+            Refusal::BadArgument =>
+                "An argument is an inherited attribute of the left occurrence, a synthesized one of a right occurrence, or d; one here is none of these.",
+            Refusal::Plan(rule) => rule.sentence(),
         }
     }
 }
@@ -108,20 +154,7 @@ impl fmt::Display for PlanRule {
     ghost output = { λ rule. Some (plan_sentence rule) };
 
     fn fmt<W: fmt::Write>(&self, f: &mut fmt::Formatter<W>) -> fmt::Result {
-        f.write_str(match self {
-            PlanRule::ReturnsInOrder =>
-                "The returns of this plan are not r1 up to the last visit of the rule's left symbol, in order, with the last one at the end.",
-            PlanRule::OneEvaluation =>
-                "An attribute that the rule defines is not evaluated exactly once in this plan, or another one is evaluated.",
-            PlanRule::VisitsInOrder =>
-                "The visits to some right occurrence do not all stand in this plan once each, in order.",
-            PlanRule::InheritedBeforeVisit =>
-                "A visit stands in this plan before the evaluation of an inherited attribute that goes down with it.",
-            PlanRule::SynthesizedBeforeReturn =>
-                "A return stands in this plan before the evaluation of a synthesized attribute that goes up with it.",
-            PlanRule::ArgumentsFirst =>
-                "An evaluation stands in this plan before the visit that gives one of its arguments, or in an earlier segment than the argument's.",
-        })
+        f.write_str(self.sentence())
     }
 }
 
@@ -129,30 +162,7 @@ impl fmt::Display for Refusal {
     ghost output = { λ refusal. Some (refusal_sentence refusal) };
 
     fn fmt<W: fmt::Write>(&self, f: &mut fmt::Formatter<W>) -> fmt::Result {
-        match self {
-            Refusal::Length => f.write_str(
-                "A sheet has 1 to 32,768 bytes; this text has none, or more.",
-            ),
-            Refusal::LineForm => f.write_str(
-                "This line has not the form of a sheet's line, or may not stand here; or the text ends early.",
-            ),
-            Refusal::Range => f.write_str(
-                "A number in this line is outside its range, or there are too many symbols, rules, right symbols, attributes, arguments, sets or instructions.",
-            ),
-            Refusal::Absent => f.write_str(
-                "This line names a symbol, an occurrence, an attribute or a visit that is not there.",
-            ),
-            Refusal::Start => f.write_str(
-                "The first symbol is the start: it has one visit and no inherited attribute.",
-            ),
-            Refusal::Target => f.write_str(
-                "An equation here is for an attribute that the rule does not define or that has one already; or, at a plan, an attribute that the rule defines has no equation.",
-            ),
-            Refusal::BadArgument => f.write_str(
-                "An argument is an inherited attribute of the left occurrence, a synthesized one of a right occurrence, or d; one here is none of these.",
-            ),
-            Refusal::Plan(rule) => write!(f, "{rule}"),
-        }
+        f.write_str(self.sentence())
     }
 }
 

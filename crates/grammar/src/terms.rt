@@ -1,4 +1,6 @@
 // The terms of a grammar that are plain values.
+ghost use Rattle.std.specs.Prelude.{◌≡◌};
+ghost use Rattle.grammar.specs.declared.terms.Instruction.TheVariants.{Return};
 
 // Inherited attributes come to a node from above, synthesized ones from below.
 #[derive(Clone, Copy, Debug, Default, PartialEq, Eq)]
@@ -30,4 +32,13 @@ pub enum Instruction {
     Evaluate(u16, u16),
     Visit(u16, u16),
     Return(u16),
+}
+
+// What fills the room that a list of instructions does not use yet.
+impl Default for Instruction {
+    ghost is_default = { λ i. i ≡ Return 0 };
+
+    fn default() -> Instruction {
+        Instruction::Return(0)
+    }
 }

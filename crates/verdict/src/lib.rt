@@ -4,7 +4,7 @@
 ghost use Rattle.std.specs.Prelude.{◌≡◌, Some};
 ghost use Rattle.reader.specs.Judgement.{judge};
 ghost use Rattle.sheet.specs.Answers.{grammar_of};
-ghost use Rattle.verdict.specs.Verdicts.{Says, Kept, account_text, accepted_in, head_text, detail_text};
+ghost use Rattle.verdict.specs.Verdicts.{Says, Kept, account_text, accepted_in, head_text, detail_text, sentence_text};
 
 use sheet::{Counts, Fault, Sheet};
 use std::fmt;
@@ -47,6 +47,13 @@ impl Verdict {
     {
         Detail(*self)
     }
+
+    // One plain sentence about a refusal; nothing about what was accepted.
+    pub fn sentence(&self) -> &'static str
+        ensures { result.now ≡ sentence_text self.now.0 }
+    {
+        self.0.err().map_or("", |fault| fault.refusal.sentence())
+    }
 }
 
 impl fmt::Display for Head {
@@ -79,7 +86,7 @@ impl fmt::Display for Verdict {
         let detail = self.detail();
         match self.0 {
             Ok(_) => write!(f, "{head}\n{detail}\n"),
-            Err(fault) => write!(f, "{head}\n{detail}\n{}\n", fault.refusal),
+            Err(_) => write!(f, "{head}\n{detail}\n{}\n", self.sentence()),
         }
     }
 }

@@ -39,7 +39,8 @@ fn digit(byte: u8) -> Option<u16>
     byte.is_ascii_digit().then(|| u16::from(byte - b'0'))
 }
 
-// 0, or 1 to 3 digits, the first not 0.
+// 0, or 1 to 3 digits, the first not 0. They are read one by one, since the library's `parse` takes what is refused
+// here: `+1`, `01`, `1000`.
 pub fn number(digits: &[u8]) -> Option<u16>
     ensures { result ≡ number_in digits.now }
 {
