@@ -7,7 +7,7 @@ use Rattle.plans.specs.Groups.{group_scope, group_equations}
 use Rattle.plans.specs.PlanRules.{Known, is_return}
 use Rattle.plans.proofs.Deciding.{never, shown, refuted}
 use Rattle.plans.proofs.Places.{upto_more, upto_read, upto_all, upto_here, here_read, all_throughout, throughout_all}
-use Rattle.plans.proofs.Ready.{Follows, EvaluationReady, evaluation_from, evaluation_at, known_decides}
+use Rattle.plans.proofs.Ready.{Follows, EvaluationReady, evaluation_from, evaluation_at, known_behind, known_decides}
 use Rattle.plans.proofs.Telling.{arguments_from, arguments_at, tests_tell}
 use Rattle.grammar.specs.declared.refusal.PlanRule.TheVariants.{ArgumentsFirst}
 use Rattle.plans.proofs.Group.arguments_first.Goals as goal
@@ -18,7 +18,7 @@ loop-argument-preserved c =
     let σ = group_scope c.args.self.now in
     let plan = c.args.self.now.plan.now in
     upto_more (λ _ t. Known σ plan c.loop-i.i t) c.as_slice-argument-items.result.now c.loop-argument.argument-index _ c.loop-argument-test.true c.loop-argument.invariant
-    ((Decides-at _ _ c.known.ensures (known_decides σ plan c.loop-i.i _)).0 c.if-not-known.false)
+    ((Decides-at _ _ (c.known.ensures ∙ known_behind plan c.loop-i.i σ _) (known_decides σ plan c.loop-i.i _)).0 c.if-not-known.false)
 
 pub loop-equation-preserved : goal.loop-equation-preserved
 loop-equation-preserved c =
@@ -71,7 +71,7 @@ returns-then-not-known c =
     let each = evaluation_at σ rows plan i _ c.in-Evaluate.o c.in-Evaluate.a c.in-Evaluate.is ready in
     let all = here_read _ rows c.loop-equation.equation-index c.equation-item.result c.loop-equation-test.true c.equation-item.is each (c.if-equation-o.true, c.if-equation-a.true) in
     let listed = all_throughout (Known σ plan i) c.as_slice-argument-items.result.now (subst (AllByRecursion (Known σ plan i)) (sym c.as_slice-argument-items.ensures.value) all) in
-    not_from_Decides _ (Decides-at _ _ c.known.ensures (known_decides σ plan i _)) c.if-not-known.true (upto_here (λ _ t. Known σ plan i t) c.as_slice-argument-items.result.now c.loop-argument.argument-index _ c.loop-argument-test.true listed))
+    not_from_Decides _ (Decides-at _ _ (c.known.ensures ∙ known_behind plan i σ _) (known_decides σ plan i _)) c.if-not-known.true (upto_here (λ _ t. Known σ plan i t) c.as_slice-argument-items.result.now c.loop-argument.argument-index _ c.loop-argument-test.true listed))
     (tests_tell ArgumentsFirst σ (group_equations c.args.self.now) plan)
 
 pub returns-after-loop-i : goal.returns-after-loop-i
