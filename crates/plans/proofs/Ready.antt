@@ -104,6 +104,9 @@ module _ (plan : List Instruction) (i : ℕ) where
       by None = refl
       by (Some x) = known_at_behind k x.visit
 
+pub target_decides : (e : Equation) (o a : ℕ) → Decides (targets e o a) ((e.occurrence ≡ o) × (e.attribute ≡ a))
+target_decides e o a = Decides-and (eqb e.occurrence o) (eqb e.attribute a) (Decides-eqb e.occurrence o) (Decides-eqb e.attribute a)
+
 -- an evaluation of o.a asks this of each equation
 abbrev pub Follows : Scope → List Instruction → ℕ → ℕ → ℕ → Equation → Type 0
 Follows σ plan i o a e = (e.occurrence ≡ o) × (e.attribute ≡ a) → AllByRecursion (Known σ plan i) e.arguments
@@ -118,7 +121,7 @@ evaluation_decides σ equations plan i (Evaluate o a) = Decides-like _ there her
     each : (e : Equation) → Decides (not (targets e o a) || every (known σ plan i) e.arguments) (Follows σ plan i o a e)
     each e =
         decides_implies (targets e o a) (every (known σ plan i) e.arguments)
-        (Decides-and (eqb e.occurrence o) (eqb e.attribute a) (Decides-eqb e.occurrence o) (Decides-eqb e.attribute a))
+        (target_decides e o a)
         (Decides-by_and (known σ plan i) (Known σ plan i) (every (known σ plan i)) (known_decides σ plan i) refl (λ _ _. refl) e.arguments)
 
     there : AllByRecursion (Follows σ plan i o a) equations → EvaluationReady σ equations plan i (Evaluate o a)

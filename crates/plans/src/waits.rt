@@ -108,7 +108,7 @@ impl<'a> Group<'a> {
                 match *x {
                     Instruction::Evaluate(o, a) => {
                         for equation in self.equations {
-                            if equation.occurrence == o && equation.attribute == a {
+                            if equation.targets(usize::from(o), usize::from(a)) {
                                 for argument in equation.arguments.as_slice() {
                                     let read = Read {
                                         before: &self.plan[..i],
