@@ -87,8 +87,8 @@ impl<'a> Production<'a> {
             .is_some()
     }
 
-    // Whether an argument names an attribute that is there. This and the next stay two matches: of a test that is called
-    // in a closure, as `is_none_or` would, the proof does not learn the answer.
+    // Whether an argument names an attribute that is there. This and the next match the two cases of an
+    // argument: one function for both would take the test of a named attribute, and save no line.
     pub fn argument_there(&self, argument: Argument) -> bool
         ensures { result ≡ argument_there (scope_of self.now) argument }
     {
@@ -114,7 +114,7 @@ impl<'a> Production<'a> {
     fn visit_there(&self, occurrence: usize, visit: u16) -> bool
         ensures { result ≡ visit_there (scope_of self.now) occurrence visit }
     {
-        1 <= visit && visit <= self.visits(occurrence)
+        (1..=self.visits(occurrence)).contains(&visit)
     }
 
     // Whether an instruction names an attribute or a visit that is there.

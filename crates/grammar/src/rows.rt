@@ -1,4 +1,7 @@
 // The rows of a sheet's tables.
+ghost use Rattle.std.specs.Prelude.{◌≡◌};
+ghost use Rattle.grammar.specs.Rows.{equation_of, targets};
+
 use super::terms::{Argument, Attribute};
 use arrayvec::ArrayVec;
 
@@ -18,3 +21,12 @@ pub struct Equation<F> {
 }
 
 pub type EquationRow = Equation<u8>;
+
+impl Equation<u8> {
+    // Whether it is for that attribute of that occurrence, which are places in tables.
+    pub fn targets(&self, occurrence: usize, attribute: usize) -> bool
+        ensures { result ≡ targets (equation_of self.now) occurrence attribute }
+    {
+        usize::from(self.occurrence) == occurrence && usize::from(self.attribute) == attribute
+    }
+}

@@ -10,7 +10,8 @@ use Rattle.grammar.specs.declared.terms.Instruction.{Instruction}
 use Rattle.grammar.specs.declared.terms.Instruction.TheVariants.{Evaluate, Visit, Return}
 use Rattle.grammar.specs.declared.refusal.Refusal.{Refusal}
 use Rattle.grammar.specs.declared.refusal.Refusal.TheVariants.{Range, Absent, Start, Target, BadArgument, Plan}
-use Rattle.plans.specs.PlanTests.{targets, first_broken}
+use Rattle.grammar.specs.Rows.{targets}
+use Rattle.plans.specs.PlanTests.{first_broken}
 
 abbrev pub between1 : ℕ → ℕ → Bool
 between1 high n = nat_le 1 n && nat_le n high

@@ -10,7 +10,7 @@ use Rattle.lines.specs.LineKinds.{Line}
 use Rattle.lines.specs.LineKinds.Line.{symbol_line, rule_line, set_line}
 use Rattle.lines.specs.declared.says.RuleSymbols.{RuleSymbols}
 
--- what came of reading the first word as f says, and the words that are left then
+-- what came of reading the first word as f says; where it says something, the others are left
 abbrev pub FirstRead : {X : Type 0} → (Token → Option X) → Result X Refusal → List Token → List Token → Type 0
 FirstRead f (Ok x) was now = (w : Token) × (was ≡ w ∷ now) × (f w ≡ Some x)
 FirstRead f (Err e) was now = (e ≡ LineForm) × ((w : Token) (ws : List Token) → was ≡ w ∷ ws → f w ≡ None)

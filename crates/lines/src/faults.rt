@@ -5,7 +5,6 @@ ghost use Rattle.grammar.specs.Rows.{symbol_of, equation_of};
 ghost use Rattle.grammar.specs.Scopes.{scope_of, defines, attributes_at, argument_there, argument_taken, instruction_there};
 ghost use Rattle.grammar.specs.Tests.{every, every_below};
 ghost use Rattle.plans.specs.Groups.{group_scope, group_equations, group_plan};
-ghost use Rattle.plans.specs.PlanTests.{targets};
 ghost use Rattle.lines.specs.Faults.{between1, complete, has_target, plan_fault, right_visit, rule_fault, set_fault, starts, symbol_fault, synthesizes};
 ghost use Rattle.lines.specs.Read.{set_of};
 
@@ -38,14 +37,14 @@ fn visits_there(symbol: &SymbolRow) -> bool
         .attributes
         .as_slice()
         .iter()
-        .all(|x| 1 <= x.visit && x.visit <= symbol.visits)
+        .all(|x| (1..=symbol.visits).contains(&x.visit))
 }
 
 // Whether a symbol may come behind others.
 pub fn check_symbol(symbols: &[SymbolRow], symbol: &SymbolRow) -> Result<(), Refusal>
     ensures { result_err result ≡ symbol_fault (map symbol_of symbols.now) (symbol_of symbol.now).visits (symbol_of symbol.now).attributes }
 {
-    let counted = 1 <= symbol.visits && symbol.visits <= 4 && symbols.len() < 32;
+    let counted = (1..=4).contains(&symbol.visits) && symbols.len() < 32;
     require(counted, Refusal::Range)?;
     require(visits_there(symbol), Refusal::Absent)?;
     require(starts(symbols, symbol), Refusal::Start)
@@ -65,18 +64,10 @@ pub fn check_rule(symbols: usize, rules: usize, row: &RuleSymbols) -> Result<(),
     require(symbols_there(symbols, row), Refusal::Absent)
 }
 
-fn is_target(e: &EquationRow, occurrence: usize, attribute: usize) -> bool
-    ensures { result ≡ targets (equation_of e.now) occurrence attribute }
-{
-    usize::from(e.occurrence) == occurrence && usize::from(e.attribute) == attribute
-}
-
 fn has_target(equations: &[EquationRow], occurrence: usize, attribute: usize) -> bool
     ensures { result ≡ has_target (map equation_of equations.now) occurrence attribute }
 {
-    equations
-        .iter()
-        .any(|e| is_target(e, occurrence, attribute))
+    equations.iter().any(|e| e.targets(occurrence, attribute))
 }
 
 fn arguments_there(production: Production<'_>, arguments: &[Argument]) -> bool

@@ -1,8 +1,10 @@
 -- What each instruction of a plan asks of those before it.
-use Rattle.std.proofs.Common.{◌≡◌, ℕ, zero, suc, Bool, not, ◌||◌, eqb, List, map, Some, None, Decides, Option, sym, refl, ap, ◌∙◌, subst}
+use Rattle.std.proofs.Common.{◌≡◌, ℕ, zero, suc, not, ◌||◌, eqb, List, map, length, take, count_by, Some, None, Decides, Option, sym, refl, ap, ◌∙◌, subst}
 use Rattle.std.specs.List.{AllByRecursion}
-use Rattle.std.proofs.lemmas.Bool.Decides.{Decides-eqb, Decides-and, Decides-like, Decides-below_and, same_from_decides}
+use Rattle.std.proofs.lemmas.Bool.Decides.{Decides-eqb, Decides-and, Decides-like, Decides-below_and}
 use Rattle.std.proofs.ByRecursion.{Decides-by_and}
+use Rattle.std.proofs.Math.Seq.{take-length}
+use Rattle.std.specs.Prelude.{nat_le}
 use Rattle.grammar.specs.Model.{Equation}
 use Rattle.grammar.specs.Rows.{equation_of}
 use Rattle.grammar.specs.Tests.{every, every_below}
@@ -15,8 +17,8 @@ use Rattle.grammar.specs.declared.terms.Argument.{Argument}
 use Rattle.grammar.specs.declared.terms.Argument.TheVariants.{Datum, Of}
 use Rattle.grammar.specs.declared.terms.Instruction.{Instruction}
 use Rattle.grammar.specs.declared.terms.Instruction.TheVariants.{Evaluate, Visit, Return}
-use Rattle.plans.specs.PlanRules.{Before, KnownAt, Known, segment_at}
-use Rattle.plans.specs.PlanTests.{attribute_is, stands_before, evaluated_before, visit_ready, return_ready, known_at, known_or, known, targets, evaluation_ready}
+use Rattle.plans.specs.PlanRules.{Before, KnownAt, Known, is_return, segment_at}
+use Rattle.plans.specs.PlanTests.{attribute_is, stands, stands_before, evaluated_before, visit_ready, return_ready, flow_ready, known_at, known_or, known, targets, evaluation_ready}
 use Rattle.plans.proofs.Deciding.{never, decides_leb, decides_implies}
 use Rattle.plans.proofs.Places.{Throughout, all_throughout, throughout_all, throughout_map, map_throughout}
 use Rattle.plans.proofs.Standing.{before_decides}
@@ -72,6 +74,39 @@ known_decides σ plan i (Of k b) = by (attribute_at σ k b)
     by None = (λ _ x e. never (cc), λ _. refl)
     by (Some y) = Decides-like _ (λ h x e. let same : y ≡ x = cc in subst (λ z. KnownAt plan i k z.visit) same h) (λ h. h y refl) (known_at_decides plan i k y.visit)
 
+-- what holds behind the part of a plan that stands before place i holds at place i
+module _ (plan : List Instruction) (i : ℕ) where
+  abbrev pub part : List Instruction
+  part = take i plan
+
+  evaluated_behind : (σ : Scope) (f : Flow) (o j : ℕ) → evaluated_before σ part (length part) f o j ≡ evaluated_before σ plan i f o j
+  evaluated_behind σ f o j = ap (λ l. every_below (λ a. not (attribute_is f j (attribute_at σ o a)) || stands (Evaluate o a) l) (attributes_at σ o)) (take-length part)
+
+  pub ready_behind : (f : Flow) (σ : Scope) (x : Option Instruction) → flow_ready f σ part (length part) x ≡ flow_ready f σ plan i x
+  ready_behind Inherited σ None = refl
+  ready_behind Inherited σ (Some (Evaluate o a)) = refl
+  ready_behind Inherited σ (Some (Visit k j)) = evaluated_behind σ Inherited k j
+  ready_behind Inherited σ (Some (Return j)) = refl
+  ready_behind Synthesized σ None = refl
+  ready_behind Synthesized σ (Some (Evaluate o a)) = refl
+  ready_behind Synthesized σ (Some (Visit k j)) = refl
+  ready_behind Synthesized σ (Some (Return j)) = evaluated_behind σ Synthesized 0 j
+
+  known_at_behind : (k j : ℕ) → known_at part (length part) k j ≡ known_at plan i k j
+  known_at_behind zero j = ap (λ l. nat_le j (suc (count_by is_return l))) (take-length part)
+  known_at_behind (suc k) j = ap (stands (Visit (suc k) j)) (take-length part)
+
+  pub known_behind : (σ : Scope) (t : Argument) → known σ part (length part) t ≡ known σ plan i t
+  known_behind σ Datum = refl
+  known_behind σ (Of k b) = by (attribute_at σ k b)
+    where
+      by : (t : Option Attribute) → known_or part (length part) k t ≡ known_or plan i k t
+      by None = refl
+      by (Some x) = known_at_behind k x.visit
+
+pub target_decides : (e : Equation) (o a : ℕ) → Decides (targets e o a) ((e.occurrence ≡ o) × (e.attribute ≡ a))
+target_decides e o a = Decides-and (eqb e.occurrence o) (eqb e.attribute a) (Decides-eqb e.occurrence o) (Decides-eqb e.attribute a)
+
 -- an evaluation of o.a asks this of each equation
 abbrev pub Follows : Scope → List Instruction → ℕ → ℕ → ℕ → Equation → Type 0
 Follows σ plan i o a e = (e.occurrence ≡ o) × (e.attribute ≡ a) → AllByRecursion (Known σ plan i) e.arguments
@@ -86,7 +121,7 @@ evaluation_decides σ equations plan i (Evaluate o a) = Decides-like _ there her
     each : (e : Equation) → Decides (not (targets e o a) || every (known σ plan i) e.arguments) (Follows σ plan i o a e)
     each e =
         decides_implies (targets e o a) (every (known σ plan i) e.arguments)
-        (Decides-and (eqb e.occurrence o) (eqb e.attribute a) (Decides-eqb e.occurrence o) (Decides-eqb e.attribute a))
+        (target_decides e o a)
         (Decides-by_and (known σ plan i) (Known σ plan i) (every (known σ plan i)) (known_decides σ plan i) refl (λ _ _. refl) e.arguments)
 
     there : AllByRecursion (Follows σ plan i o a) equations → EvaluationReady σ equations plan i (Evaluate o a)
@@ -96,11 +131,6 @@ evaluation_decides σ equations plan i (Evaluate o a) = Decides-like _ there her
     here h = throughout_all (Follows σ plan i o a) equations (h o a refl)
 evaluation_decides σ equations plan i (Visit k j) = (λ _ o a e. never (cc), λ _. refl)
 evaluation_decides σ equations plan i (Return j) = (λ _ o a e. never (cc), λ _. refl)
-
--- of a right occurrence, what a visit brings is known after it
-pub known_visit : (plan : List Instruction) (i k j : ℕ) (t : Bool) → (k ≡ 0 → ⊥) → Decides t (Before plan i (Visit k j)) → t ≡ known_at plan i k j
-known_visit plan i zero j t h d = absurd (h refl)
-known_visit plan i (suc k) j t h d = same_from_decides t _ d (before_decides plan i (Visit (suc k) j))
 
 module _ (σ : Scope) (rows : List EquationRow) (plan : List Instruction) (i : ℕ) (x : Instruction) (o a : ℕ) (is : x ≡ Evaluate o a) where
   pub evaluation_from : Throughout (λ _ e. Follows σ plan i o a (equation_of e)) rows → EvaluationReady σ (map equation_of rows) plan i x

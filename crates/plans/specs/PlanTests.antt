@@ -3,6 +3,7 @@ use Rattle.std.specs.Prelude.{ℕ, zero, suc, ◌-◌, Bool, true, false, not, �
 use Rattle.std.specs.List.{slice_get}
 use Rattle.std.specs.Str.{bytes_eq}
 use Rattle.grammar.specs.Model.{Equation}
+pub use Rattle.grammar.specs.Rows.{targets}
 use Rattle.grammar.specs.Tests.{every, some, every_below}
 use Rattle.grammar.specs.Scopes.{Scope, visits_at, attributes_at, attribute_at, same_flow, defines}
 use Rattle.grammar.specs.declared.terms.Flow.{Flow}
@@ -120,9 +121,6 @@ known_or plan i k (Some x) = known_at plan i k x.visit
 abbrev pub known : Scope → List Instruction → ℕ → Argument → Bool
 known σ plan i Datum = true
 known σ plan i (Of k b) = known_or plan i k (attribute_at σ k b)
-
-abbrev pub targets : Equation → ℕ → ℕ → Bool
-targets e o a = e.occurrence == o && e.attribute == a
 
 abbrev pub evaluation_ready : Scope → List Equation → List Instruction → ℕ → Option Instruction → Bool
 evaluation_ready σ equations plan i None = true

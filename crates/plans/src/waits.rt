@@ -1,5 +1,5 @@
 // What the instructions of a plan wait for.
-ghost use Rattle.std.specs.Prelude.{◌≡◌, ◌≤◌, length, Some};
+ghost use Rattle.std.specs.Prelude.{◌≡◌, length, Some};
 ghost use Rattle.std.specs.List.{slice_get};
 ghost use Rattle.grammar.specs.Tests.{every_below};
 ghost use Rattle.grammar.specs.declared.refusal.PlanRule.TheVariants.{ArgumentsFirst};
@@ -8,38 +8,65 @@ ghost use Rattle.plans.specs.PlanRules.{segment_at};
 ghost use Rattle.plans.specs.PlanTests.{evaluated_before, flow_ready, known, known_at, passes};
 
 use super::Group;
-use super::scans::{evaluated, stands_before};
+use super::scans::evaluated;
 use grammar::{Argument, Attribute, Flow, Instruction};
 
+// The part of a plan that stands before a place, and the segment in which the place lies.
+#[derive(Clone, Copy)]
+struct Read<'a> {
+    before: &'a [Instruction],
+    segment: usize,
+    ghost counted: { segment ≡ segment_at before.now (length before.now) },
+}
+
+impl<'a> Read<'a> {
+    // Whether the values of a visit of an occurrence are known behind it.
+    fn knows(self, occurrence: u16, visit: u16) -> bool
+        ensures { result ≡ known_at self.entry.before.now (length self.entry.before.now) occurrence visit }
+    {
+        if occurrence == 0 {
+            usize::from(visit) <= self.segment
+        } else {
+            self.before.contains(&Instruction::Visit(occurrence, visit))
+        }
+    }
+}
+
 impl<'a> Group<'a> {
-    // Whether each attribute of an occurrence with that flow and visit is evaluated before place `end`.
-    fn evaluated_before(&self, end: usize, flow: Flow, occurrence: usize, visit: u16) -> bool
-        requires { end ≤ length (group_plan self.now) }
-        ensures { result ≡ evaluated_before (group_scope self.now) (group_plan self.now) end flow occurrence visit }
+    // Whether each attribute of an occurrence with that flow and visit is evaluated in what stands before.
+    fn evaluated_before(
+        &self,
+        before: &[Instruction],
+        flow: Flow,
+        occurrence: usize,
+        visit: u16,
+    ) -> bool
+        ensures { result ≡ evaluated_before (group_scope self.now) before.now (length before.now) flow occurrence visit }
     {
         self.production
             .attributes(occurrence)
             .iter()
             .enumerate()
             .all(|(a, attribute)| {
-                *attribute != Attribute { flow, visit } || evaluated(self.plan, end, occurrence, a)
+                *attribute != Attribute { flow, visit } || evaluated(before, occurrence, a)
             })
     }
 
-    // Whether what an instruction waits for is evaluated before place `end`, of the attributes with that flow. A visit
-    // waits for the inherited attributes that go down with it, a return for the synthesized ones that go up with it.
-    fn flow_ready(&self, end: usize, flow: Flow, x: Instruction) -> bool
-        requires { end ≤ length (group_plan self.now) }
-        ensures { result ≡ flow_ready flow (group_scope self.now) (group_plan self.now) end (Some x) }
+    // Whether what an instruction waits for is evaluated in what stands before it, of the attributes with that flow. A
+    // visit waits for the inherited attributes that go down with it, a return for the synthesized ones that go up with it.
+    fn flow_ready(&self, before: &[Instruction], flow: Flow, x: Instruction) -> bool
+        ensures { result ≡ flow_ready flow (group_scope self.now) before.now (length before.now) (Some x) }
     {
         match (flow, x) {
             (Flow::Inherited, Instruction::Visit(k, j)) => self.evaluated_before(
-                end,
+                before,
                 flow,
                 usize::from(k),
                 j,
             ),
-            (Flow::Synthesized, Instruction::Return(j)) => self.evaluated_before(end, flow, 0, j),
+            (Flow::Synthesized, Instruction::Return(j)) => self.evaluated_before(
+                before, flow, 0, j,
+            ),
             _ => true,
         }
     }
@@ -51,34 +78,20 @@ impl<'a> Group<'a> {
         self.plan
             .iter()
             .enumerate()
-            .all(|(i, x)| self.flow_ready(i, flow, *x))
+            .all(|(i, x)| self.flow_ready(&self.plan[..i], flow, *x))
     }
 
-    // Whether the values of a visit of an occurrence are known at a place that lies in that segment.
-    fn known_at(&self, place: usize, segment: usize, occurrence: u16, visit: u16) -> bool
-        requires within { place ≤ length (group_plan self.now) }
-        requires counted { segment ≡ segment_at (group_plan self.now) place }
-        ensures { result ≡ known_at (group_plan self.now) place occurrence visit }
-    {
-        if occurrence == 0 {
-            usize::from(visit) <= segment
-        } else {
-            stands_before(self.plan, place, Instruction::Visit(occurrence, visit))
-        }
-    }
-
-    // Whether an argument is known at a place that lies in that segment.
-    fn known(&self, place: usize, segment: usize, argument: Argument) -> bool
-        requires within { place ≤ length (group_plan self.now) }
-        requires counted { segment ≡ segment_at (group_plan self.now) place }
-        ensures { result ≡ known (group_scope self.now) (group_plan self.now) place argument }
+    // Whether an argument is known behind the part of the plan that was read.
+    fn known(&self, read: Read<'_>, argument: Argument) -> bool
+        ensures { result ≡ known (group_scope self.now) read.entry.before.now (length read.entry.before.now) argument }
     {
         let Argument::Of(k, b) = argument else {
             return true;
         };
-        // A match, since behind `is_none_or` the proof lacks what the closure's call of `known_at` promises.
+        // A match: the clause of `is_none_or` says nothing of what a closure answers that calls `knows`, not even where
+        // the closure has clauses of its own.
         match self.production.attribute(usize::from(k), usize::from(b)) {
-            Some(x) => self.known_at(place, segment, k, x.visit),
+            Some(x) => read.knows(k, x.visit),
             None => true,
         }
     }
@@ -95,9 +108,13 @@ impl<'a> Group<'a> {
                 match *x {
                     Instruction::Evaluate(o, a) => {
                         for equation in self.equations {
-                            if equation.occurrence == o && equation.attribute == a {
+                            if equation.targets(usize::from(o), usize::from(a)) {
                                 for argument in equation.arguments.as_slice() {
-                                    if !self.known(i, returns + 1, *argument) {
+                                    let read = Read {
+                                        before: &self.plan[..i],
+                                        segment: returns + 1,
+                                    };
+                                    if !self.known(read, *argument) {
                                         break 'check false;
                                     }
                                 }

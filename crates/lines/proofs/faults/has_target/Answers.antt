@@ -1,8 +1,7 @@
 use Rattle.std.proofs.Common.{Bool, ◌∙◌, rules}
 use borrow.Author.Tests.{tests}
 use Rattle.grammar.specs.Model.{Equation}
-use Rattle.grammar.specs.Rows.{equation_of}
-use Rattle.plans.specs.PlanTests.{targets}
+use Rattle.grammar.specs.Rows.{equation_of, targets}
 use Rattle.plans.proofs.Chains.{some_asked}
 use Rattle.lines.proofs.Trying.{some_map}
 use Rattle.lines.proofs.faults.has_target.Goals as goal
