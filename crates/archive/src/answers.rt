@@ -46,7 +46,7 @@ pub fn house_text<C: Clip>(archive: &Catalogue<C>, value: House<C>) -> Text
     archive.text(value)
 }
 
-// Values of the house are equal only where they are one.
+// Values of the house are equal exactly where they are one.
 pub fn equality_is_exact<C: Clip>()
     ensures { (a b : HouseOf C) → Decides (⟦<House<C> as PartialEq>⟧.eq a b) (a ≡ b) }
 {}

@@ -29,6 +29,7 @@ impl Clip for Path {
             .map_or(House::Nothing, |row| House::Clip(row.clip))
     }
 
+    // Pushed and not printed by Display, since a text may be any bytes, and writing it can't fail.
     fn text(self) -> Text {
         let mut text = Text::lettered(b'p', self.volume);
         text.push(b'/');

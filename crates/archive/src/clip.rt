@@ -36,7 +36,7 @@ pub trait Clip: Copy + Eq {
     fn text(self) -> Text
         ensures { written result ≡ texts self };
 
-    // Clips are equal only where they are one.
+    // Clips are equal exactly where they are one.
     ghost exact: { (a b : Self) → Decides (Self.PartialEq.eq a b) (a ≡ b) };
 }
 

@@ -1,5 +1,5 @@
 // The values of the house, and its functions.
-ghost use Rattle.std.specs.Prelude.{◌≡◌, Contains, Some, option_map, codes, decimal, ◌++◌};
+ghost use Rattle.std.specs.Prelude.{◌≡◌, Contains, Some, codes, decimal, ◌++◌};
 ghost use Rattle.archive.specs.Functions.{functions, function_of, count_of, sum_of, extended_of, choice_of, later_of, given_by, frames_of, clip_of, frames_or_nothing, house_text};
 ghost use Rattle.archive.specs.Texts.{written};
 ghost use Rattle.archive.specs.Rows.{length_of};
@@ -169,6 +169,7 @@ impl<C: Clip> House<C> {
     }
 
     // The text of a value.
+    // Pushed and not printed by Display, since a text may be any bytes, and writing it can't fail.
     pub fn text(self) -> Text
         ensures { written result ≡ house_text C.Clip.texts self }
     {

@@ -23,7 +23,7 @@ use Rattle.tour.specs.Results.{Meaning, worth, applied, equation}
 use Rattle.tour.specs.Rules.{rule, no_rule}
 use Rattle.tour.specs.Runs.{In}
 use Rattle.tour.specs.Trees.{Instance, at_of}
-use Rattle.walk.specs.Evaluation.{NamedIn, given_by, argument_by, result_by, NoEquation, equations_at}
+use Rattle.walk.specs.Evaluation.{NamedIn, result_by, NoEquation, equations_at}
 use Rattle.sheet.specs.Meaning.{Sound}
 use Rattle.walk.specs.Walking.{Meeting}
 use Rattle.walk.specs.declared.walker.Met.{Met}
@@ -64,11 +64,6 @@ read_nth (x ∷ xs) (suc i) d = read_nth xs i d
 -- the value of an attribute that has an entry
 pub value_kept : {V : Type 0} (missing : V) (vs : List V) (p a : ℕ) → a < 16 → value_at missing vs (p, a) ≡ get_or vs (16 * p + a) missing
 value_kept missing vs p a h = let t : ltb a 16 ≡ true = grind (arith, nat_tests) in ap (λ b. cond b (get_or vs (16 * p + a) missing) missing) t
-
-pub given_nth : {V : Type 0} (M : Meaning V) (at : ℕ → ℕ) (code : ℕ) (v : Instance → V) (xs : List Argument) (i : ℕ) → given_by M at code v (slice_get xs i) ≡ argument_by M at code v xs i
-given_nth M at code v [] i = refl
-given_nth M at code v (x ∷ xs) zero = refl
-given_nth M at code v (x ∷ xs) (suc i) = given_nth M at code v xs i
 
 -- what the node at a place says of occurrences that are there is what the table shows of them
 module _ {V : Type 0} (M : Meaning V) (g : Grammar) (ps : List (Option Node)) (p : ℕ) (n : Node) (there : at ps p ≡ Some n) (v : Instance → V) where

@@ -1,5 +1,5 @@
 -- Moves, one after the other.
-use Rattle.std.proofs.Common.{◌≡◌, ℕ, zero, suc, ◌<◌, ◌≤◌, true, false, List, [], ◌∷◌, ◌++◌, map, length, Some, Option, sym, refl, ap, ◌∙◌, subst, inl, inr, append_assoc, arith}
+use Rattle.std.proofs.Common.{◌≡◌, ℕ, zero, suc, true, false, List, [], ◌∷◌, ◌++◌, map, Some, Option, sym, refl, ap, ◌∙◌, subst, inl, inr, append_assoc, arith}
 use Rattle.grammar.specs.Model.{Grammar}
 use Rattle.places.specs.Marks.{owes}
 use Rattle.places.specs.Places.{table, owed_at}
@@ -9,13 +9,12 @@ use Rattle.tour.specs.Walks.{plan_at, left_over}
 use Rattle.walk.specs.Ahead.{behind_visit, goes_on, depth_left, ahead}
 use Rattle.walk.specs.Moves.{moved, meets}
 use Rattle.walk.specs.Stands.{Stand}
-use Rattle.walk.specs.Walking.{Walking, Meeting, Unowed, Moves, Reached, at_end}
+use Rattle.walk.specs.Walking.{Walking, Unowed, Moves, Reached, at_end}
 use Rattle.walk.specs.declared.walker.Met.{Met}
 use Rattle.walk.specs.declared.walker.Mode.{Mode}
 use Rattle.walk.specs.declared.walker.Mode.TheVariants.{InPlan, Entering, Returning, Done}
 use Rattle.tour.proofs.Lists.{in_cases}
 use Rattle.walk.proofs.Moving.{moving}
-use Rattle.walk.proofs.Naming.{evaluate_names}
 
 module _ (g : Grammar) (ps : List (Option Node)) where
   pub advanced : (s t : Stand) (o : Option Met) → Walking g ps s → at_end s.mode ≡ false → t ≡ moved g (table g ps) s → o ≡ meets g (table g ps) s → Moves g ps s o t
@@ -34,10 +33,6 @@ module _ (g : Grammar) (ps : List (Option Node)) where
   -- several moves, the last of which meets an instance
   pub reaches : (s u t : Stand) (m : Met) → ahead g (table g ps) s ≡ ahead g (table g ps) u → Moves g ps u (Some m) t → Reached g ps s m t
   reaches s u t m e v = record { walking = v.walking; meeting = v.meeting m refl; lists = e ∙ v.lists }
-
-  -- what was met names an occurrence and an attribute that are there
-  pub meeting_names : (s : Stand) (m : Met) → Walking g ps s → Meeting g ps m → (m.occurrence ≤ length (table g ps m.rule_place).kids) × (m.attribute < 16)
-  meeting_names s m w e = evaluate_names g ps m.rule_place m.occurrence m.attribute w.sound w.places_sound e.rule_place_used e.stands
 
 unowed_more : (ps : List (Option Node)) (xs : List Instance) (x : Instance) → Unowed ps xs → owed_at ps x ≡ false → Unowed ps (xs ++ x ∷ [])
 unowed_more ps xs x u n y m d = elim (in_cases y xs (x ∷ []) m) [ inl k ↦ u y k d | inr (inl e) ↦ never (ap (owed_at ps) (sym e) ∙ d) | inr (inr k) ↦ k ]

@@ -17,7 +17,6 @@ use sheet::Sheet;
 // Whether an instance that a walk met is owed.
 #[tactic(auto, using(crate::proofs::Going::none_owes))]
 pub fn is_due(places: &[Place], met: Met) -> bool
-    requires { met.attribute < 16 }
     ensures { result ≡ owed_at places.now (instance_of met) }
 {
     node_at(places, met.place).is_some_and(|node| is_owed(node.marks, met.attribute))
@@ -41,6 +40,7 @@ impl<'p, 'c> Walk<'p, 'c> {
     }
 
     // Moves on to the next instance of the tour.
+    // A loop and no search by a closure: each turn changes the walk, and a closure tells the proof nothing of what it changes.
     pub fn next_instance(&mut self, sheet: &Sheet, places: &[Place]) -> Option<Met>
         requires { Walking (grammar_of sheet.now) places.now (stand_of self.old) }
         ensures { MatchOption result (Ended (grammar_of sheet.now) places.now (stand_of self.old) (stand_of self.new)) (λ m. Reached (grammar_of sheet.now) places.now (stand_of self.old) m (stand_of self.new)) }
@@ -54,6 +54,7 @@ impl<'p, 'c> Walk<'p, 'c> {
     }
 
     // Goes on to the next owed instance of the tour, and never back.
+    // A loop and no search by a closure: each turn changes the walk, and a closure tells the proof nothing of what it changes.
     pub fn next_owed(&mut self, sheet: &Sheet, places: &[Place]) -> Option<Met>
         requires { Walking (grammar_of sheet.now) places.now (stand_of self.old) }
         ensures { MatchOption result (NoneOwed (grammar_of sheet.now) places.now (stand_of self.old) (stand_of self.new)) (λ m. OwedNext (grammar_of sheet.now) places.now (stand_of self.old) m (stand_of self.new)) }

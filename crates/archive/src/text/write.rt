@@ -25,6 +25,7 @@ impl Text {
     }
 
     // The decimal digits of a number, as far as there is room for them.
+    // Pushed and not printed by Display, since a text may be any bytes, and writing it can't fail.
     pub fn push_number(&mut self, n: u32)
         ensures { written self.new ≡ take 40 (written self.old ++ numeral n) }
     {

@@ -1,7 +1,7 @@
-use Rattle.std.proofs.Common.{◌≡◌, [], ◌∷◌, ◌++◌, take, ℕ, suc, ◌+◌, List, sym, ap, ◌∙◌, append_assoc, arith}
+use Rattle.std.proofs.Common.{◌≡◌, ◌++◌, take, ℕ, suc, ◌+◌, List, sym, ap, ◌∙◌, append_assoc, arith}
 use Rattle.std.proofs.Math.Seq.{take-suc}
 use Rattle.std.proofs.lemmas.List.{take_all}
-use Rattle.archive.specs.Texts.{written, numeral}
+use Rattle.archive.specs.Texts.{written}
 use Rattle.archive.proofs.Writing.{piece, written_so_far, numeral_decimal}
 use Rattle.archive.proofs.text.Text.push_number.Goals as goal
 

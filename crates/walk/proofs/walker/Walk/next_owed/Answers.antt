@@ -1,6 +1,6 @@
 use Rattle.std.proofs.Common.{[], ◌++◌, length, sym, refl, ap, ◌∙◌, subst, append-nil, arith}
 use Rattle.walk.specs.Walking.{Unowed}
-use Rattle.walk.proofs.Going.{meeting_names, passes_unowed}
+use Rattle.walk.proofs.Going.{passes_unowed}
 use Rattle.walk.proofs.walker.Walk.next_owed.Goals as goal
 
 pub loop-found-init : goal.loop-found-init
@@ -8,9 +8,6 @@ loop-found-init c = (c.requires, ([], (λ x m. absurd m), refl))
 
 pub next_instance-requires : goal.next_instance-requires
 next_instance-requires c = c.loop-found.invariant.0
-
-pub is_due-requires : goal.is_due-requires
-is_due-requires c = (meeting_names _ _ _ _ c.requires c.in-Some.ensures.meeting).1
 
 pub returns-then-is_due : goal.returns-then-is_due
 returns-then-is_due c =
