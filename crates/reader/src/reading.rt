@@ -34,7 +34,7 @@ impl Tables {
         let Word::Key(name) = first else {
             return Err(Refusal::LineForm);
         };
-        let key = Key::read(name).ok_or(Refusal::LineForm)?;
+        let key = Key::try_from(name)?;
         require(self.allows(key), Refusal::LineForm)?;
         self.read_words(key, words)
     }
