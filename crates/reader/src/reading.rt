@@ -104,6 +104,7 @@ impl Tables {
                 line: 0,
             },
         )?;
+        // A test, since of `inspect_err(|_| self.clear())` the proof does not learn what the closure leaves in the tables.
         let answer = self.read_lines(text);
         if answer.is_err() {
             self.clear();
