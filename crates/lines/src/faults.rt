@@ -70,6 +70,8 @@ fn has_target(equations: &[EquationRow], occurrence: usize, attribute: usize) ->
     equations.iter().any(|e| e.targets(occurrence, attribute))
 }
 
+// This, the next and `instructions_there` ask each another test: one function for them would take the test as a closure,
+// and have to require that the test may be called and speak of its answers, where each clause here names the test.
 fn arguments_there(production: Production<'_>, arguments: &[Argument]) -> bool
     ensures { result ≡ every (argument_there (scope_of production.entry)) arguments.now }
 {
@@ -82,7 +84,8 @@ fn arguments_taken(production: Production<'_>, arguments: &[Argument]) -> bool
     arguments.iter().all(|x| production.argument_taken(*x))
 }
 
-// Whether an equation may join a rule that has some already.
+// Whether an equation may join a rule that has some already. They come with the rule as two parameters and not as a
+// `Group`, since the rule has no plan yet.
 pub fn check_equation(
     production: Production<'_>,
     equations: &[EquationRow],
@@ -106,19 +109,22 @@ pub fn check_equation(
     require(arguments_taken(production, arguments), Refusal::BadArgument)
 }
 
-// Whether each attribute of an occurrence that the rule defines has an equation.
-fn complete_at(production: Production<'_>, equations: &[EquationRow], occurrence: usize) -> bool
-    ensures { result ≡ every_below (λ a. not (defines (scope_of production.entry) occurrence a) || has_target (map equation_of equations.now) occurrence a) (attributes_at (scope_of production.entry) occurrence) }
+// Whether each attribute of an occurrence that the rule defines has an equation. A method of `Production` for this and
+// the like test of plans would take the test of an attribute as a closure, require that it may be called, and speak of
+// its answers.
+fn complete_at(group: &Group<'_>, occurrence: usize) -> bool
+    ensures { result ≡ every_below (λ a. not (defines (group_scope group.now) occurrence a) || has_target (group_equations group.now) occurrence a) (attributes_at (group_scope group.now) occurrence) }
 {
-    (0..production.attributes(occurrence).len()).all(|a| !production.defines(occurrence, a)
-        || has_target(equations, occurrence, a))
+    (0..group.production.attributes(occurrence).len()).all(|a| {
+        !group.production.defines(occurrence, a) || has_target(group.equations, occurrence, a)
+    })
 }
 
 // Whether each attribute that the rule defines has an equation.
-fn complete(production: Production<'_>, equations: &[EquationRow]) -> bool
-    ensures { result ≡ complete (scope_of production.entry) (map equation_of equations.now) }
+fn complete(group: &Group<'_>) -> bool
+    ensures { result ≡ complete (group_scope group.now) (group_equations group.now) }
 {
-    (0..production.right.len() + 1).all(|o| complete_at(production, equations, o))
+    (0..group.production.right.len() + 1).all(|o| complete_at(group, o))
 }
 
 // Only right occurrences are visited.
@@ -141,6 +147,6 @@ pub fn check_plan(group: &Group<'_>) -> Result<(), Refusal>
     let production = group.production;
     require(visits_right(group.plan), Refusal::Range)?;
     require(instructions_there(production, group.plan), Refusal::Absent)?;
-    require(complete(production, group.equations), Refusal::Target)?;
+    require(complete(group), Refusal::Target)?;
     group.check().map_err(Refusal::Plan)
 }

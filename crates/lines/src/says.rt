@@ -1,5 +1,7 @@
 // What the words of a line say.
 ghost use Rattle.std.specs.Prelude.{◌≡◌};
+ghost use Rattle.std.specs.Option.{ok_or};
+ghost use Rattle.grammar.specs.declared.refusal.Refusal.TheVariants.{LineForm};
 ghost use Rattle.words.specs.Left.{left};
 ghost use Rattle.words.specs.Tokens.{number_of, pair_word};
 ghost use Rattle.lines.specs.Lines.{key_in, symbol_in, rule_in, set_in};
@@ -18,16 +20,18 @@ pub enum Key {
     OfPlan,
 }
 
-impl Key {
-    pub fn read(name: &[u8]) -> Option<Key>
-        ensures { result ≡ key_in name.now }
-    {
+impl TryFrom<&[u8]> for Key {
+    type Error = Refusal;
+
+    ghost try_from_gives = { λ name r. r ≡ ok_or (key_in name.now) LineForm };
+
+    fn try_from(name: &[u8]) -> Result<Key, Refusal> {
         match name {
-            b"symbol" => Some(Key::OfSymbol),
-            b"rule" => Some(Key::OfRule),
-            b"set" => Some(Key::OfSet),
-            b"plan" => Some(Key::OfPlan),
-            _ => None,
+            b"symbol" => Ok(Key::OfSymbol),
+            b"rule" => Ok(Key::OfRule),
+            b"set" => Ok(Key::OfSet),
+            b"plan" => Ok(Key::OfPlan),
+            _ => Err(Refusal::LineForm),
         }
     }
 }

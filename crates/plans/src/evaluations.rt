@@ -11,7 +11,9 @@ use super::scans::evaluated_once;
 use grammar::Instruction;
 
 impl<'a> Group<'a> {
-    // Whether each attribute of an occurrence that the rule defines is evaluated at one place.
+    // Whether each attribute of an occurrence that the rule defines is evaluated at one place. A method of `Production`
+    // for this and the like test of equations would take the test of an attribute as a closure, require that it may be
+    // called, and speak of its answers.
     fn each_once(&self, occurrence: usize) -> bool
         ensures { result ≡ every_below (evaluates_once (group_scope self.now) (group_plan self.now) occurrence) (attributes_at (group_scope self.now) occurrence) }
     {

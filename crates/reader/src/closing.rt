@@ -17,7 +17,9 @@ use lines::check_plan;
 use plans::{Group, require};
 use words::Words;
 
-// Adds the words of a plan to those that were read before, as long as there are at most 1,024.
+// Adds the words of a plan to those that were read before, as long as there are at most 1,024. As in grammar's
+// `read_list`, `fits` is kept until the end, since a word of another form is told before too many words. It is no
+// `read_list`, since that fills a list of its own, and a plan goes behind others into the table of all plans.
 fn read_plan(words: Words<'_>, plan: &mut Vec<Instruction>) -> Result<(), Refusal>
     requires { 1024 ≤ vec_capacity plan.old }
     ensures read { PlanRead result (all_of instruction_word (left words.entry)) plan.old.items plan.new.items }

@@ -34,7 +34,7 @@ impl Tables {
         let Word::Key(name) = first else {
             return Err(Refusal::LineForm);
         };
-        let key = Key::read(name).ok_or(Refusal::LineForm)?;
+        let key = Key::try_from(name)?;
         require(self.allows(key), Refusal::LineForm)?;
         self.read_words(key, words)
     }
@@ -104,6 +104,7 @@ impl Tables {
                 line: 0,
             },
         )?;
+        // A test, since of `inspect_err(|_| self.clear())` the proof does not learn what the closure leaves in the tables.
         let answer = self.read_lines(text);
         if answer.is_err() {
             self.clear();

@@ -9,8 +9,8 @@ use Rattle.lines.proofs.faults.complete.Goals as goal
 
 pub returns : goal.returns
 returns c =
-    let σ = scope_of c.args.production in
-    let test : ℕ → Bool = λ o. every_below (λ a. not (defines σ o a) || has_target (map equation_of c.args.equations.now) o a) (attributes_at σ o) in
-    let n = length c.args.production.right.now in
+    let σ = scope_of c.args.group.now.production in
+    let test : ℕ → Bool = λ o. every_below (λ a. not (defines σ o a) || has_target (map equation_of c.args.group.now.equations.now) o a) (attributes_at σ o) in
+    let n = length c.args.group.now.production.right.now in
     let next : n + 1 ≡ suc n = omega arith in
     below_asked test (n + 1) _ _ _ c.all.ensures.ran (cc) (λ x b q k. search (rules, tests)) ∙ ap (every_below test) next

@@ -9,5 +9,5 @@ use Rattle.lines.proofs.faults.complete_at.Goals as goal
 
 pub returns : goal.returns
 returns c =
-    let test : ℕ → Bool = λ a. not (defines (scope_of c.args.production) c.args.occurrence a) || has_target (map equation_of c.args.equations.now) c.args.occurrence a in
+    let test : ℕ → Bool = λ a. not (defines (scope_of c.args.group.now.production) c.args.occurrence a) || has_target (map equation_of c.args.group.now.equations.now) c.args.occurrence a in
     below_asked test (length c.attributes.result.now) _ _ _ c.all.ensures.ran (cc) (λ x b q k. search (rules, tests)) ∙ ap (every_below test) c.attributes.ensures.count

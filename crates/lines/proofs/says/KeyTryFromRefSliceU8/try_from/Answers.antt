@@ -1,7 +1,9 @@
 use Rattle.std.proofs.Common.{◌≡◌, ℕ, zero, suc, ◌<◌, List, codes, length, get_or, sym, ap, rules, arith}
 use Rattle.std.proofs.lemmas.Grind.{same_number_lists}
 use Rattle.lines.specs.Lines.{key_in}
-use Rattle.lines.proofs.says.Key.read.Goals as goal
+use Rattle.grammar.specs.declared.refusal.Refusal.TheVariants.{LineForm}
+use Rattle.std.specs.Option.{ok_or}
+use Rattle.lines.proofs.says.KeyTryFromRefSliceU8.try_from.Goals as goal
 
 six : (xs : List ℕ) → length xs ≡ 6 → get_or xs 0 0 ≡ 115 → get_or xs 1 0 ≡ 121 → get_or xs 2 0 ≡ 109 → get_or xs 3 0 ≡ 98 → get_or xs 4 0 ≡ 111 → get_or xs 5 0 ≡ 108 → xs ≡ codes "symbol"
 six xs n a b c d e f = same_number_lists xs (codes "symbol") n at
@@ -25,4 +27,4 @@ returns-in-symbol c =
     let b3 : get_or name 3 0 ≡ 98 = search rules in
     let b4 : get_or name 4 0 ≡ 111 = search rules in
     let b5 : get_or name 5 0 ≡ 108 = search rules in
-    sym (ap key_in (six name n b0 b1 b2 b3 b4 b5))
+    sym (ap (λ xs. ok_or (key_in xs) LineForm) (six name n b0 b1 b2 b3 b4 b5))
