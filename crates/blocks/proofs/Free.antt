@@ -1,5 +1,7 @@
 -- The free places of a table.
-use Rattle.std.proofs.Common.{◌≡◌, ℕ, zero, suc, ◌+◌, ◌<◌, ◌≤◌, List, [], ◌∷◌, length, drop, Some, None, Option, sym, refl, ap, ap₂, ◌∙◌, add-zero, arith, cond, ltb, position, ⊎_elim, lt-ltb}
+use Rattle.std.proofs.Common.{◌≡◌, ℕ, zero, suc, ◌+◌, ◌<◌, ◌≤◌, List, [], ◌∷◌, length, drop, Some, None, Option, sym, refl, ap, ap₂, ◌∙◌, add-zero, arith, cond, ltb, position, ⊎_elim, lt-ltb, MatchOption, subst}
+use Rattle.std.specs.Option.{option_map}
+use Rattle.blocks.proofs.Fronts.{none_case}
 use Rattle.std.specs.List.{position_or_len}
 use Rattle.std.proofs.lemmas.List.{drop-drop}
 use Rattle.std.proofs.lemmas.Option.{cond_some, none-some}
@@ -34,3 +36,8 @@ free_nowhere from ps e =
     let rest = drop from ps in
     let n = position_or_len is_free rest in
     ⊎_elim (λ l. absurd (none-some n (sym e ∙ ap (λ b. cond b (Some n) None) (lt-ltb _ _ l)))) (none_free from rest) (cases_lt n (length rest))
+
+-- the place of the first free one, told by how many stand before it
+pub first_after : (from : ℕ) (ps : List (Option Node)) (o r : Option ℕ) → position is_free (drop from ps) ≡ o → r ≡ option_map (λ k. from + k) o → MatchOption r (free_after from ps ≡ []) (λ p. free_after from ps ≡ p ∷ free_after (p + 1) ps)
+first_after from ps None r e f = none_case _ _ r f (free_nowhere from ps e)
+first_after from ps (Some k) r e f = subst (λ o. MatchOption o (free_after from ps ≡ []) (λ p. free_after from ps ≡ p ∷ free_after (p + 1) ps)) (sym f) (free_at from ps k e)

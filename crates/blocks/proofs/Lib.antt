@@ -1,5 +1,6 @@
 pub mod Fronts
 pub mod Rows
+pub mod Requiring
 pub mod Free
 pub mod Plantings
 pub mod Taking

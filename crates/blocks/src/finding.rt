@@ -17,6 +17,5 @@ pub fn first_free(places: &[Place], from: usize) -> Option<usize>
     ensures found { MatchOption result (free_after from places.now ≡ []) (λ p. free_after from places.now ≡ p ∷ free_after (p + 1) places.now) }
     ensures there { IfSome result (λ p. (from ≤ p) × (p < length places.now)) }
 {
-    let ahead = before_free(places.get(from..)?)?;
-    Some(from + ahead)
+    before_free(places.get(from..)?).map(|ahead| from + ahead)
 }

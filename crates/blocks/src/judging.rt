@@ -9,6 +9,7 @@ ghost use Rattle.blocks.specs.Rows.{NoRow, Row};
 
 use super::piece::{BlockFault, Piece};
 use places::kind_of;
+use plans::require;
 use sheet::Sheet;
 
 const MOST_PIECES: usize = 1024;
@@ -16,7 +17,7 @@ const MOST_PIECES: usize = 1024;
 const DEEPEST: usize = 64;
 
 // Reads a row of trees with these symbols, whose roots lie that deep, off the front of the pieces: how deep they go,
-// and the pieces that are left.
+// and the pieces that are left. None where they are not there, a fault of form to every caller.
 fn measure_row<'a>(
     sheet: &Sheet,
     symbols: &[u16],
@@ -41,7 +42,8 @@ fn measure_row<'a>(
     Some((depth.max(below).max(beside), rest))
 }
 
-// The symbol that the first piece must have: the one that is named, or the piece's own.
+// The symbol that the first piece must have: the one that is named, or the piece's own. None, a fault of form, where
+// there is neither.
 fn first_symbol(sheet: &Sheet, named: Option<u16>, block: &[Piece]) -> Option<u16>
     ensures { MatchOption result (tree_fault (grammar_of sheet.now) (symbol_or (grammar_of sheet.now) named block.now) block.now ≡ Some Form) (λ x. x ≡ symbol_or (grammar_of sheet.now) named block.now) }
 {
@@ -58,13 +60,8 @@ fn judge_tree(sheet: &Sheet, symbol: u16, pieces: &[Piece]) -> Result<(), BlockF
     ensures { result_err result ≡ tree_fault (grammar_of sheet.now) symbol pieces.now }
 {
     let (deepest, rest) = measure_row(sheet, &[symbol], 1, pieces).ok_or(BlockFault::Form)?;
-    if !rest.is_empty() {
-        return Err(BlockFault::Form);
-    }
-    if deepest > DEEPEST {
-        return Err(BlockFault::Depth);
-    }
-    Ok(())
+    require(rest.is_empty(), BlockFault::Form)?;
+    require(deepest <= DEEPEST, BlockFault::Depth)
 }
 
 // Whether pieces are a block, its first piece of that symbol, if one is named.
@@ -72,9 +69,7 @@ pub fn judge_block(sheet: &Sheet, first: Option<u16>, block: &[Piece]) -> Result
     ensures fault { result_err result ≡ block_fault (grammar_of sheet.now) first block.now }
     ensures readable { OnOk result (reads (grammar_of sheet.now) (own_symbol (grammar_of sheet.now) block.now ∷ []) (pairs block.now) ≡ true) }
 {
-    if block.is_empty() || block.len() > MOST_PIECES {
-        return Err(BlockFault::Length);
-    }
+    require((1..=MOST_PIECES).contains(&block.len()), BlockFault::Length)?;
     let symbol = first_symbol(sheet, first, block).ok_or(BlockFault::Form)?;
     judge_tree(sheet, symbol, block)
 }

@@ -57,7 +57,7 @@ fn new_node(piece: Piece, up: Option<Parent>, children: [u16; 4], attributes: us
     }
 }
 
-// What is still to be planted: the pieces, and the number from which on places are still free.
+// The sheet, the pieces that are still to be planted, and the number from which on free places are looked for.
 #[derive(Clone, Copy)]
 struct Planter<'b, 's> {
     sheet: &'s Sheet,
@@ -68,6 +68,7 @@ struct Planter<'b, 's> {
 impl<'b, 's> Planter<'b, 's> {
     // Plants a row of that many trees, the first under that parent. The answer has the places of their roots. It goes down
     // the row as a forest is defined, one tree and the row beside it; a loop over the row would have to say that again.
+    // Four roots, as a node has room for four children by the table's layout and is copied, which no vector is.
     fn plant_row(
         &mut self,
         places: &mut [Place],
