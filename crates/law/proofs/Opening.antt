@@ -19,9 +19,10 @@ use Rattle.places.specs.Places.{at, link_of, cell_of, table}
 use Rattle.places.specs.Shape.{RootThere, SoundPlaces}
 use Rattle.places.specs.declared.node.Node.{Node}
 use Rattle.places.specs.declared.node.Parent.{Parent}
+use Rattle.places.specs.Totals.{is_free}
 use Rattle.blocks.specs.Taken.{taken, TakenLaw}
 use Rattle.law.specs.Handed.{Archive, Rundown, Piece}
-use Rattle.law.specs.Conditions.{is_free, tree_of}
+use Rattle.law.specs.Conditions.{tree_of}
 use Rattle.law.specs.Calls.{no_place, root_of, NewValues, Opens}
 use Rattle.law.specs.Book.{Book, all_places, opened, TreeAtPlaces}
 use Rattle.law.specs.Law.{ShowsBook, Opening}

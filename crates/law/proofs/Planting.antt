@@ -20,10 +20,10 @@ use Rattle.tour.proofs.Sums.{apart_append}
 use Rattle.places.specs.Marks.{owes}
 use Rattle.places.specs.Places.{at, used, marks_in, cell_of, table, owed_at, value_at, state_of}
 use Rattle.places.specs.Shape.{InShape}
+use Rattle.places.specs.Totals.{is_free}
 use Rattle.places.proofs.Tables.{ranked}
 use Rattle.blocks.specs.Taken.{taken, TakenLaw}
 use Rattle.law.specs.Handed.{Archive, Rundown, Ticket, Piece, meaning}
-use Rattle.law.specs.Conditions.{is_free}
 use Rattle.law.specs.Calls.{NewValues, root_of, Plants}
 use Rattle.law.specs.Book.{Entry, Book, all_places, all_instances, is_instance, planted, TreeAtPlaces}
 use Rattle.law.specs.Law.{ShowsBook}

@@ -7,8 +7,9 @@ use Rattle.tour.proofs.Sums.{same_length}
 use Rattle.places.specs.Places.{at}
 use Rattle.places.specs.Shape.{InShape}
 use Rattle.places.specs.declared.node.Node.{Node}
+use Rattle.places.specs.Totals.{is_free}
 use Rattle.law.specs.Handed.{Archive, Rundown, Ticket, Piece}
-use Rattle.law.specs.Conditions.{ShortValues, FewCells, BadLength, Formless, TooDeep, is_free, TooFew, Checks, passed, check}
+use Rattle.law.specs.Conditions.{ShortValues, FewCells, BadLength, Formless, TooDeep, TooFew, Checks, passed, check}
 use Rattle.law.specs.Calls.{plant_checks, Plants}
 use Rattle.law.specs.Book.{Book, all_places}
 use Rattle.law.specs.Histories.Event.{plant}

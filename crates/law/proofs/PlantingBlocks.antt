@@ -1,6 +1,5 @@
 -- The tree of an accepted block finds room in the table.
-use Rattle.std.proofs.Common.{◌≡◌, ℕ, zero, suc, ◌≤◌, cond, ◌⊎◌, List, [], ◌∷◌, ◌++◌, length, Some, None, count_by, Option, sym, refl, ap, ◌∙◌, subst, inl, inr, append_assoc, arith}
-use Rattle.std.proofs.lemmas.List.Sums.{sum_by-cons}
+use Rattle.std.proofs.Common.{◌≡◌, ℕ, zero, suc, ◌≤◌, ◌⊎◌, List, [], ◌∷◌, ◌++◌, length, count_by, Option, sym, ap, ◌∙◌, subst, inl, inr, append_assoc}
 use Rattle.grammar.specs.Model.{Grammar}
 use Rattle.tour.specs.Blocks.{pieces}
 use Rattle.tour.specs.Rules.{rule}
@@ -10,10 +9,11 @@ use Rattle.tour.specs.Trees.Forest.{none, node}
 use Rattle.tour.specs.Walks.{Within}
 use Rattle.tour.proofs.Lists.{head_same, tail_same}
 use Rattle.places.specs.declared.node.Node.{Node}
-use Rattle.places.specs.Totals.{free_from}
+use Rattle.places.specs.Totals.{is_free}
+use Rattle.places.proofs.Counting.{free_length}
 use Rattle.blocks.specs.Taken.{TakenLaw}
 use Rattle.law.specs.Handed.{Piece}
-use Rattle.law.specs.Conditions.{TooDeep, is_free}
+use Rattle.law.specs.Conditions.{TooDeep}
 use Rattle.law.specs.Calls.{NewTree}
 use Rattle.law.proofs.LayingSound.{Room}
 
@@ -68,12 +68,6 @@ module _ (σ : Grammar) where
     | inl w ↦ w
     | inr k ↦ absurd (n (λ y h ah eh wh. k (pieces_within h f y x 64 ah ag (eh ∙ sym e) wh)))
   ]
-
--- the free places are counted
-pub free_length : (i : ℕ) (ps : List (Option Node)) → length (free_from i ps) ≡ count_by is_free ps
-free_length i [] = refl
-free_length i (None ∷ ps) = let h = free_length (suc i) ps in let s = sum_by-cons (λ o. cond (is_free o) 1 0) None ps in omega arith
-free_length i (Some n ∷ ps) = let h = free_length (suc i) ps in let s = sum_by-cons (λ o. cond (is_free o) 1 0) (Some n) ps in omega arith
 
 -- an accepted block has room at the places that it takes
 pub new_room : TakenLaw → (g : Grammar) (x : ℕ) (b : List Piece) (ps qs : List (Option Node)) (f : Forest) → NewTree g x b ps qs f → (TooDeep g b → ⊥) → length b ≤ count_by is_free ps → Room g ps x f

@@ -10,6 +10,7 @@ use Rattle.tour.specs.Blocks.{pieces}
 use Rattle.places.specs.Places.{at, parent_at, arity, attributes, table, owed_at, value_at}
 use Rattle.places.specs.Shape.{InShape, InTree}
 use Rattle.places.specs.declared.node.Node.{Node}
+use Rattle.places.specs.Totals.{is_free}
 use Rattle.blocks.specs.Taken.{taken}
 use Rattle.blocks.specs.Planted.{laid}
 use Rattle.exchange.specs.Waking.{Remarked}
@@ -17,7 +18,7 @@ use Rattle.exchange.specs.Takers.{takers_of}
 use Rattle.exchange.specs.Exchanging.{ExchangedPlaces}
 use Rattle.exchange.specs.Freeing.{Freed}
 use Rattle.law.specs.Handed.{Archive, Rundown, Ticket, Piece, meaning}
-use Rattle.law.specs.Conditions.{Lacking, BadSize, ShortValues, FewCells, BadLength, FormlessFrom, Formless, TooDeep, is_free, TooFew, HoldsBlock, OtherSymbol, ResultTooDeep, UnmetInstance, Settled, tree_of, Checks, passed, check}
+use Rattle.law.specs.Conditions.{Lacking, BadSize, ShortValues, FewCells, BadLength, FormlessFrom, Formless, TooDeep, TooFew, HoldsBlock, OtherSymbol, ResultTooDeep, UnmetInstance, Settled, tree_of, Checks, passed, check}
 use Rattle.law.specs.declared.decline.Decline.{Decline}
 use Rattle.law.specs.declared.decline.Decline.TheVariants.{Function, Tables, Length, Form, Depth, Full, Shape, Cells, Ticket as Ticket-declined, Target, Symbol, Unmet, Unsettled, Absent}
 

@@ -1,5 +1,5 @@
 -- The conditions under which calls are declined, each stated once, and what it means to try them in order.
-use Rattle.std.specs.Prelude.{◌≡◌, ℕ, ◌+◌, ◌-◌, ◌*◌, ◌<◌, Bool, true, not, ◌⊎◌, List, [], ◌∷◌, length, is_some, Some, None, Option, ◌≢◌}
+use Rattle.std.specs.Prelude.{◌≡◌, ℕ, ◌+◌, ◌-◌, ◌*◌, ◌<◌, true, ◌⊎◌, List, [], ◌∷◌, length, Some, None, Option, ◌≢◌}
 use Rattle.std.specs.List.{slice_get}
 use Rattle.grammar.specs.Model.{Equation, Rule, Grammar}
 use Rattle.tour.specs.Rules.{rule}
@@ -47,9 +47,6 @@ Formless g b = (x : ℕ) → FormlessFrom g x b
 -- some path of the block's tree has more than 64 nodes
 abbrev pub TooDeep : Grammar → List Piece → Type 0
 TooDeep g b = (x : ℕ) (f : Forest) → Agrees g f (x ∷ []) → pieces f ≡ b → Within f 64 → ⊥
-
-abbrev pub is_free : Option Node → Bool
-is_free x = not (is_some x)
 
 abbrev pub TooFew : ℕ → List Piece → Type 0
 TooFew free b = free < length b
