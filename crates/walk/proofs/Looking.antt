@@ -1,11 +1,11 @@
 -- What is read off the sheet and the places.
-use Rattle.std.proofs.Common.{◌≡◌, ℕ, zero, suc, ◌<◌, ◌≤◌, List, [], ◌∷◌, length, get_or, drop, Some, None, Option, unwrap_or, sym, refl, ap, ◌∙◌, one-add, arith}
+use Rattle.std.proofs.Common.{◌≡◌, ℕ, zero, suc, ◌<◌, ◌≤◌, List, [], ◌∷◌, length, get_or, Some, None, Option, unwrap_or, sym, refl, ap, ◌∙◌, arith}
 use Rattle.std.specs.Option.{option_map}
 use Rattle.std.specs.List.{slice_get}
-use Rattle.std.proofs.lemmas.List.{get_or-drop}
 use Rattle.grammar.specs.Model.{Grammar, Rule}
-use Rattle.places.specs.Places.{at, arity, firsts, table, cell_of}
+use Rattle.places.specs.Places.{at, arity, table, cell_of}
 use Rattle.places.specs.declared.node.Node.{Node}
+use Rattle.places.proofs.Firsts.{firsts_at, length_firsts}
 use Rattle.plans.specs.declared.Group.{Group}
 use Rattle.sheet.specs.Answers.{group_rule}
 use Rattle.tour.specs.Rules.{rule, no_rule}
@@ -28,18 +28,9 @@ rule_missing g k o e s = rule_read_lem g.rules k ∙ ap (λ r. unwrap_or r no_ru
 pub plan_of : (g : Grammar) (ps : List (Option Node)) (p : ℕ) (n : Node) → at ps p ≡ Some n → plan_at g (table g ps) p ≡ (rule g n.rule).plan
 plan_of g ps p n e = ap (λ o. (rule g (cell_of g o).rule).plan) e
 
-firsts_at : (n : ℕ) (cs : List ℕ) (k : ℕ) → k < n → get_or (firsts n cs) k 0 ≡ get_or cs k 0
-firsts_at zero cs k h = absurd (omega arith)
-firsts_at (suc n) cs zero h = refl
-firsts_at (suc n) cs (suc k) h = firsts_at n (drop 1 cs) k (omega arith) ∙ get_or-drop 1 cs k 0 ∙ ap (λ z. get_or cs z 0) (one-add k)
-
-pub length_firsts : (n : ℕ) (cs : List ℕ) → length (firsts n cs) ≡ n
-length_firsts zero cs = refl
-length_firsts (suc n) cs = ap suc (length_firsts n (drop 1 cs))
-
 -- a child stands where the node says
 pub child_at : (g : Grammar) (ps : List (Option Node)) (p : ℕ) (n : Node) → at ps p ≡ Some n → (k : ℕ) → k < arity g n.rule → get_or (table g ps p).kids k 0 ≡ get_or n.children k 0
-child_at g ps p n e k h = ap (λ o. get_or (cell_of g o).kids k 0) e ∙ firsts_at (arity g n.rule) n.children k h
+child_at g ps p n e k h = ap (λ o. get_or (cell_of g o).kids k 0) e ∙ firsts_at (arity g n.rule) k n.children h
 
 pub kids_count : (g : Grammar) (ps : List (Option Node)) (p : ℕ) (n : Node) → at ps p ≡ Some n → length (table g ps p).kids ≡ arity g n.rule
 kids_count g ps p n e = ap (λ o. length (cell_of g o).kids) e ∙ length_firsts (arity g n.rule) n.children

@@ -32,7 +32,7 @@ returns-in-InPlan-Evaluate c =
     let h = evaluates (at-returns-in-InPlan-Evaluate c).In-InPlan-Evaluate in
     record {
       stand = moved_evaluate g c.args.places.now s _ _ c.in-InPlan-Evaluate.is-0 h.stands;
-      met = met_evaluate g c.args.places.now s _ _ _ c.in-InPlan-Evaluate.is-0 h.stands (c.occurrence_place.ensures ∙ occurrence_at g c.args.places.now s.place c.in_ok-node.node (sym c.node_at.ensures ∙ c.in_ok-node.was) _ h.there);
+      met = met_evaluate g c.args.places.now s _ _ _ c.in-InPlan-Evaluate.is-0 h.stands (c.occurrence_place.ensures.place ∙ occurrence_at g c.args.places.now s.place c.in_ok-node.node (sym c.node_at.ensures ∙ c.in_ok-node.was) _ h.there);
     }
 
 pub enter-requires : goal.enter-requires
@@ -44,6 +44,6 @@ returns-in-InPlan-Visit c =
     let s = stand_of c.args.self.now in
     let h = visits (at-returns-in-InPlan-Visit c).In-InPlan-Visit in
     record {
-      stand = c.enter.ensures ∙ moved_visit g c.args.places.now s _ _ _ c.in-InPlan-Visit.is-0 h.stands (c.occurrence_place-child.ensures ∙ occurrence_at g c.args.places.now s.place c.in_ok-node.node (sym c.node_at.ensures ∙ c.in_ok-node.was) _ h.there);
+      stand = c.enter.ensures ∙ moved_visit g c.args.places.now s _ _ _ c.in-InPlan-Visit.is-0 h.stands (c.occurrence_place-child.ensures.place ∙ occurrence_at g c.args.places.now s.place c.in_ok-node.node (sym c.node_at.ensures ∙ c.in_ok-node.was) _ h.there);
       met = met_visit g c.args.places.now s _ _ c.in-InPlan-Visit.is-0 h.stands;
     }
