@@ -11,6 +11,8 @@ use super::house::{Function, House};
 use super::interface::{Archive, Printable};
 use super::text::Text;
 
+// The rows are any rows, looked through from the front: a map would ask for memory of its own, and making a catalogue could
+// fail.
 #[derive(Drop)]
 pub struct Catalogue<C> {
     rows: Vec<Row<C>>,

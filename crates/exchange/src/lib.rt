@@ -1,4 +1,5 @@
-// Changes of the table of places: single fields, marks, the exchange of a block, and the freeing of one.
+// Changes of the table of places: single fields, marks, the exchange of a block, and the freeing of one. That a node stands
+// at a place is asked where it is needed and kept in no type: the table changes, and a number of a place outlives the node.
 #![tactic(auto)]
 
 mod block;

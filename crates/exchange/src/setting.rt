@@ -1,4 +1,5 @@
-// One field of the node at a place, written; a free place stays free.
+// One field of the node at a place, written; a free place stays free. The setters of a child, a parent and marks differ in
+// the field alone, and each is one assignment of what `map` gives.
 ghost use Rattle.std.specs.Prelude.{◌≡◌, ◌<◌, length};
 ghost use Rattle.exchange.specs.Setting.{changed_at, with_child, with_parent, with_marks};
 ghost use Rattle.exchange.specs.Waking.{Woke, Slept, is_at};

@@ -102,7 +102,7 @@ impl<'a> Group<'a> {
         ensures { result ≡ passes ArgumentsFirst (group_scope self.now) (group_equations self.now) (group_plan self.now) }
     {
         let mut returns = 0usize;
-        // The scans over instructions, equations and arguments are left by the label at the first violation.
+        // Nested scans, left by the label at the first violation: the form that docs/DECISIONS.md lays down for this place.
         'check: {
             for (i, x) in self.plan.iter().enumerate() {
                 match *x {

@@ -3,7 +3,7 @@ ghost use Rattle.std.specs.Prelude.{◌≡◌, ◌+◌, ◌*◌, ◌<◌, ◌≤
 ghost use Rattle.std.specs.List.{find};
 ghost use Rattle.std.specs.Option.{option_map};
 ghost use Rattle.grammar.specs.Model.{Grammar};
-ghost use Rattle.grammar.specs.Rows.{equation_of};
+ghost use Rattle.grammar.specs.Rows.{equation_of, targets};
 ghost use Rattle.places.specs.Places.{used, table, value_at};
 ghost use Rattle.places.specs.Shape.{SoundPlaces};
 ghost use Rattle.sheet.specs.Answers.{grammar_of};
@@ -28,9 +28,9 @@ fn equation_for<'a>(
     occurrence: u16,
     attribute: u16,
 ) -> Option<&'a EquationRow>
-    ensures { option_map (λ e. e.now) result ≡ find (λ e. e.occurrence == occurrence && e.attribute == attribute) equations.now }
+    ensures { option_map (λ e. e.now) result ≡ find (λ e. targets (equation_of e) occurrence attribute) equations.now }
 {
-    equations.iter().find(|row| row.occurrence == occurrence && row.attribute == attribute)
+    equations.iter().find(|row| row.targets(usize::from(occurrence), usize::from(attribute)))
 }
 
 // The value of an attribute at a place; the leaf of 0 where none is kept.

@@ -11,7 +11,7 @@ use grammar::Instruction;
 use places::{Place, node_at};
 use sheet::Sheet;
 
-// An instruction of the plan of the rule at a place.
+// An instruction of the plan of the rule at a place, where a node has to stand.
 pub fn instruction_at(
     sheet: &Sheet,
     places: &[Place],
