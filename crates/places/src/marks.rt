@@ -9,7 +9,8 @@ pub fn is_owed(marks: u16, attribute: u16) -> bool
     attribute < 16 && (marks >> attribute) & 1 == 1
 }
 
-// The marks with an attribute owed. One function for both, by a flag, would only choose between these two bodies.
+// The marks with an attribute owed. One function for this and `without_owed`, by a flag, would only choose between the two
+// bodies.
 pub fn with_owed(marks: u16, attribute: u16) -> u16
     requires { attribute < 16 }
     ensures { Turned marks attribute true result }

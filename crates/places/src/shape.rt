@@ -10,7 +10,8 @@ use super::kinds::{arity_of, kind_of, left_of};
 use super::node::{Node, Parent, Place};
 use sheet::Sheet;
 
-// Sheet and places stay two parameters: through a struct's fields each clause below would read longer.
+// Sheet and places are two parameters here and above. A struct of both would have to be two, one that looks at the table
+// and one that changes it, and each clause would read `self.now.sheet.now` for `sheet.now`.
 
 // Whether a child hangs below that place as child number k, counted from 0, and has that symbol.
 fn child_is_there(sheet: &Sheet, p: usize, k: usize, symbol: u16, child: Place) -> bool

@@ -9,10 +9,13 @@ returns-in_default c =
     record { summit = r.0; ended = r.1; fits = c.loop-above.invariant.1 }
 
 pub loop-above-preserved : goal.loop-above-preserved
-loop-above-preserved c = (subst (λ q. Passed c.args.places.now 64 c.args.p (64 - (c.loop-above.above + 1)) (c.loop-above.above + 1) q) (sym c.from-top.ensures)
-    (passed_more c.args.places.now 64 c.args.p (64 - (c.loop-above.above + 1)) c.loop-above.above c.loop-above.top c.in-Some.parent
-    (subst (λ n. Passed c.args.places.now 64 c.args.p n c.loop-above.above c.loop-above.top) (omega arith) c.loop-above.invariant.0)
-    (sym c.in-Some.ensures)), λ h. omega arith)
+loop-above-preserved c = (
+  subst (λ q. Passed c.args.places.now 64 c.args.p (64 - (c.loop-above.above + 1)) (c.loop-above.above + 1) q) (sym c.from-top.ensures)
+      (passed_more c.args.places.now 64 c.args.p (64 - (c.loop-above.above + 1)) c.loop-above.above c.loop-above.top c.in-Some.parent
+      (subst (λ n. Passed c.args.places.now 64 c.args.p n c.loop-above.above c.loop-above.top) (omega arith) c.loop-above.invariant.0)
+      (sym c.in-Some.ensures)),
+  λ h. omega arith,
+)
 
 pub returns : goal.returns
 returns c =
