@@ -26,6 +26,7 @@ impl Clip for Identifier {
         }
     }
 
+    // Pushed and not printed by Display, since a text may be any bytes, and writing it can't fail.
     fn text(self) -> Text {
         Text::lettered(b'c', self.0)
     }

@@ -30,7 +30,7 @@ pub trait Archive {
     fn apply(&self, function: u8, a: Self::Value, b: Self::Value, c: Self::Value) -> Self::Value
         ensures { result ≡ results self.now function a b c };
 
-    // Whether two values are equal.
+    // Whether two values are equal. One of the four calls of the interface, and so kept beside `==`, which may be its body.
     fn same(&self, a: Self::Value, b: Self::Value) -> bool
         ensures { Decides result (a ≡ b) };
 }

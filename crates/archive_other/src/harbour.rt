@@ -61,6 +61,7 @@ impl Printable for Harbour {
 
     ghost apart = { λ s. tides_apart };
 
+    // Pushed and not printed by Display, since a text may be any bytes, and writing it can't fail.
     fn text(&self, value: Tide) -> Text {
         let mut text = Text::new();
         text.push(match value {

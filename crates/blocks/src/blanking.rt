@@ -46,6 +46,7 @@ pub fn blank_values<A: Archive>(
     // in a generic function.
     let mut next = 0;
     for piece in block {
+        // No value to map: what follows writes to the values, so an unknown rule, or no free place, ends it here.
         let Some(kind) = kind_of(sheet, piece.rule as usize) else {
             return;
         };

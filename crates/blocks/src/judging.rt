@@ -17,7 +17,8 @@ const MOST_PIECES: usize = 1024;
 const DEEPEST: usize = 64;
 
 // Reads a row of trees with these symbols, whose roots lie that deep, off the front of the pieces: how deep they go,
-// and the pieces that are left. None where they are not there, a fault of form to every caller.
+// and the pieces that are left. None where they are not there, a fault of form to every caller: as a Result the contract
+// would have to say so once more.
 fn measure_row<'a>(
     sheet: &Sheet,
     symbols: &[u16],
@@ -43,7 +44,7 @@ fn measure_row<'a>(
 }
 
 // The symbol that the first piece must have: the one that is named, or the piece's own. None, a fault of form, where
-// there is neither.
+// there is neither: as a Result the contract would have to say so once more.
 fn first_symbol(sheet: &Sheet, named: Option<u16>, block: &[Piece]) -> Option<u16>
     ensures { MatchOption result (tree_fault (grammar_of sheet.now) (symbol_or (grammar_of sheet.now) named block.now) block.now ≡ Some Form) (λ x. x ≡ symbol_or (grammar_of sheet.now) named block.now) }
 {

@@ -29,6 +29,7 @@ pub fn free_block(sheet: &Sheet, places: &mut [Place], block: u16, cells: &mut [
 {
     let mut path = Pushdown::over(cells);
     path.push(block).unwrap();
+    // A loop, since each turn changes the list, and the table, that the next one asks.
     while let Some(p) = path.top() {
         match used_child(sheet, places, p) {
             Some(child) => path.push(child).unwrap(),

@@ -40,6 +40,7 @@ fn wake_inherited(sheet: &Sheet, places: &mut [Place], p: u16)
     requires { FitsAt (grammar_of sheet.now) places.old p }
     ensures { Woke places.old places.new (inherited_at (grammar_of sheet.now) (table (grammar_of sheet.now) places.old) p) }
 {
+    // No value to map: what follows writes to the table, so a free place ends it here.
     let Some(node) = node_at(places, p) else {
         return;
     };

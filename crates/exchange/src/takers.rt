@@ -54,6 +54,7 @@ pub fn mark_takers(sheet: &Sheet, places: &mut [Place], p: u16, from: Taken)
     requires { FitsAt (grammar_of sheet.now) places.old p }
     ensures { Woke places.old places.new (takers_at (grammar_of sheet.now) (table (grammar_of sheet.now) places.old) p from) }
 {
+    // No value to map: what follows writes to the table, so a free place ends it here.
     let Some(node) = node_at(places, p) else {
         return;
     };
@@ -82,6 +83,7 @@ pub fn wake_takers(sheet: &Sheet, places: &mut [Place], q: u16, a: u16)
     requires there { used places.old q ≡ true }
     ensures { Woke places.old places.new (takers_of (grammar_of sheet.now) (table (grammar_of sheet.now) places.old) (q, a)) }
 {
+    // No value to map: what follows writes to the table, so a free place ends it here.
     let Some(node) = node_at(places, q) else {
         return;
     };

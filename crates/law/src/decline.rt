@@ -35,6 +35,7 @@ pub enum Decline {
     Absent,
 }
 
+// By a match, as the numbers of refusals are, which can have no discriminants: there is one way of numbering.
 impl From<Decline> for u8 {
     ghost from_gives = { λ decline n. n ≡ decline_number decline };
 

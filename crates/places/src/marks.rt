@@ -1,4 +1,5 @@
-// The owed attributes of a node, in one number of 16 bits.
+// The owed attributes of a node, in one number of 16 bits. A mark past the sixteenth cannot be set, so whoever sets one asks
+// for an attribute below 16.
 ghost use Rattle.std.specs.Prelude.{◌≡◌, ℕ, ◌<◌, true, false, MatchOption};
 ghost use Rattle.places.specs.Marks.{owes, First, Turned, owed_below};
 

@@ -11,7 +11,8 @@ pub struct Parent {
 }
 
 // A node of the tree or of a held block. Of its children as many count as its rule has right symbols. The marks are its
-// owed attributes, attribute 0 in the lowest digit.
+// owed attributes, attribute 0 in the lowest digit. The children lie in an array, as a node is copied and the library's
+// vector in place cannot be.
 #[derive(Clone, Copy, Debug, PartialEq, Eq)]
 pub struct Node {
     pub rule: u16,
@@ -21,7 +22,8 @@ pub struct Node {
     pub marks: u16,
 }
 
-// A free place holds nothing.
+// A free place holds nothing. A table is a slice of places that is handed in, as the values are, and a node names others by
+// their numbers: tables are lent, and nothing here may ask for memory.
 pub type Place = Option<Node>;
 
 impl Node {

@@ -1,4 +1,5 @@
-// One list for every kind of element, over cells that a caller lends: what was put on last comes off first.
+// One list for every kind of element, over cells that a caller lends: what was put on last comes off first. Lent cells are
+// the form that docs/DECISIONS.md lays down.
 ghost use Rattle.std.specs.Prelude.{◌≡◌, ◌+◌, ◌-◌, ◌≤◌, IfOk, IfErr, if◌then◌else◌, [], ◌∷◌, ◌++◌, length, MatchOption, nat_lt};
 ghost use Rattle.places.specs.Stack.{stacked};
 

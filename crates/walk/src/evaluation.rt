@@ -117,6 +117,7 @@ pub fn evaluate<A: Archive>(
     ensures changed { MatchBool result (value_at (A.leafs archive.now 0) values.old (instance_of met) ≢ own_result (meaning_of (A.leafs archive.now) (A.results archive.now)) (grammar_of sheet.now) (table (grammar_of sheet.now) places.now) met.rule_place met.occurrence met.attribute (value_at (A.leafs archive.now 0) values.old)) (value_at (A.leafs archive.now 0) values.old (instance_of met) ≡ own_result (meaning_of (A.leafs archive.now) (A.results archive.now)) (grammar_of sheet.now) (table (grammar_of sheet.now) places.now) met.rule_place met.occurrence met.attribute (value_at (A.leafs archive.now 0) values.old)) }
     ensures evaluates { Evaluates (meaning_of (A.leafs archive.now) (A.results archive.now)) (grammar_of sheet.now) (table (grammar_of sheet.now) places.now) (instance_of met) result (value_at (A.leafs archive.now 0) values.old) (value_at (A.leafs archive.now 0) values.new) }
 {
+    // No value to map: what follows writes to the values, so a place without a node or an equation ends it here.
     let Some(node) = node_at(places, met.rule_place) else {
         return false;
     };

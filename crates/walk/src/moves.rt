@@ -60,7 +60,8 @@ impl<'p, 'c> Walk<'p, 'c> {
         self.next = 0;
     }
 
-    // One move, at the instruction where the walk stands. An evaluation in the plan is met.
+    // One move, at the instruction where the walk stands. An evaluation in the plan is met. Mode and instruction are matched
+    // together: the form that docs/DECISIONS.md lays down for this place.
     pub fn advance(&mut self, sheet: &Sheet, places: &[Place]) -> Option<Met>
         requires { Walking (grammar_of sheet.now) places.now (stand_of self.old) }
         ensures stand { stand_of self.new ≡ moved (grammar_of sheet.now) (table (grammar_of sheet.now) places.now) (stand_of self.old) }
