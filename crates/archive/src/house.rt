@@ -137,14 +137,16 @@ impl<C: Clip> House<C> {
             .into()
     }
 
-    // These frames, and those that a clip has by the catalogue.
+    // These frames, and those that a clip has by the catalogue, whose rows are gone through only where both are there.
     pub fn extended(self, rows: &[Row<C>], other: House<C>) -> House<C>
         ensures { result ≡ extended_of (length_of C.eq rows.now) self other }
     {
-        let added = other.clip().and_then(|clip| length(rows, clip));
         self.frames()
-            .zip(added)
-            .map(|(frames, added)| frames.saturating_add(added))
+            .zip(other.clip())
+            .and_then(|(frames, clip)| {
+                let added = length(rows, clip)?;
+                Some(frames.saturating_add(added))
+            })
             .into()
     }
 

@@ -11,7 +11,10 @@ mod interface;
 mod text;
 mod varied;
 
-pub use answers::{equality_is_exact, house_count, house_leaf, house_result, house_text};
+pub use answers::{
+    equality_is_exact, house_count, house_leaf, house_result, house_text, leaf_by_identifier,
+    leaf_by_path, text_by_identifier, text_by_path,
+};
 pub use by_id::Identifier;
 pub use by_path::Path;
 pub use catalogue::{ById, ByPath, Catalogue};

@@ -9,7 +9,9 @@ use Rattle.places.specs.Shape.{top_from, ChildThere, ParentThere, HangsBelow, So
 use Rattle.places.specs.declared.node.Node.{Node}
 use Rattle.places.specs.declared.node.Parent.{Parent}
 use Rattle.exchange.specs.Freeing.{Freed, UsedChild}
+use Rattle.exchange.specs.Takers.{FitsThere, FitsAt}
 use Rattle.exchange.proofs.Climbing.{lineage, passed, lineage_passed, lineage_length, top_top, up, top_up}
+use Rattle.exchange.proofs.Soundness.{sound_fits}
 use Rattle.exchange.proofs.Targets.{used_within, kids_length, kids_at}
 
 never : {X : Type 0} → false ≡ true → X
@@ -82,6 +84,15 @@ module _ (g : Grammar) (ps : List (Option Node)) (s : SoundPlaces g ps) (block :
           let n = node_there (at ps q) k in
           let e : n.0.parent ≡ Some u = ap parent_in (sym n.1) ∙ v in
           there q (at ps u.place) u.position (subst (HangsBelow g ps q) e (s.nodes q n.0 n.1).parent_there)
+
+  -- the last place still fits
+  pub last_fits : (now : List (Option Node)) (st : List ℕ) (p : ℕ) → Freeing ps now block (st ++ p ∷ []) → FitsAt g now p
+  last_fits now st p f =
+      let l = last ps now block st p f in
+      let n = node_there (at now p) l.there in
+      let e : at ps p ≡ Some n.0 = sym (still ps now block (st ++ p ∷ []) f p l.there) ∙ n.1 in
+      let t = sound_fits g ps s p n.0 e in
+      subst (FitsThere g now) (sym n.1) (record { rule_there = t.rule_there; children_within = λ k h. (let a = t.children_within k h in let b = f.long in omega arith) })
 
   -- one place further down
   pub went_down : (now : List (Option Node)) (st : List ℕ) (p child : ℕ) → Freeing ps now block (st ++ p ∷ []) → UsedChild now (table g now p).kids (Some child) → (length (st ++ p ∷ []) < 64) × Freeing ps now block ((st ++ p ∷ []) ++ child ∷ [])

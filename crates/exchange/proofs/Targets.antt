@@ -18,7 +18,7 @@ use Rattle.places.specs.declared.node.Node.{Node}
 use Rattle.exchange.specs.Takers.{Fits, FitsThere, FitsAt, takes_from, wakes, takers_among, takers_at}
 use Rattle.exchange.specs.Waking.{is_at}
 use Rattle.exchange.specs.declared.taken.Taken.{Taken}
-use Rattle.exchange.proofs.Sheets.{equation_sound, few_attributes, defined_standing, nth_is}
+use Rattle.exchange.proofs.Sheets.{equation_sound, rule_sound, few_attributes, defined_standing, nth_is}
 use Rattle.exchange.proofs.Somes.{some_more}
 use Rattle.places.proofs.Firsts.{firsts_at, length_firsts, at_of_firsts}
 
@@ -39,10 +39,16 @@ fits_used g ps p = by (at ps p)
 
 -- an equation of the rule of the node n at p, ready to be looked at
 pub record Ready (g : Grammar) (ps : List (Option Node)) (p : ℕ) (n : Node) (e : EquationRow) : Type 0 where
+  pub occurrence : e.occurrence ≤ 4
   pub attribute : e.attribute < 16
+  pub there : at_of p n.children e.occurrence < length ps
   pub kid : at_of p (firsts (arity g n.rule) n.children) e.occurrence ≡ at_of p n.children e.occurrence
 
-module _ (g : Grammar) (ps : List (Option Node)) (p : ℕ) (n : Node) (s : Sound g) (f : Fits g ps n) where
+module _ (g : Grammar) (ps : List (Option Node)) (p : ℕ) (n : Node) (s : Sound g) (f : Fits g ps n) (l : p < length ps) where
+  pub occurrence_within : (o : ℕ) → o ≤ arity g n.rule → at_of p n.children o < length ps
+  occurrence_within zero h = l
+  occurrence_within (suc k) h = f.children_within k (omega arith)
+
   pub ready : (es : List EquationRow) → map equation_of es ≡ (rule g n.rule).equations → (i : ℕ) (e : EquationRow) → i < length es → e ≡ get_or es i e → Ready g ps p n e
   ready es same i e h is =
       let m : get_or (rule g n.rule).equations i (equation_of e) ≡ equation_of e = ap (λ x. get_or x i (equation_of e)) (sym same) ∙ get_or-map equation_of es i e (equation_of e) h ∙ ap equation_of (sym is) in
@@ -51,8 +57,11 @@ module _ (g : Grammar) (ps : List (Option Node)) (p : ℕ) (n : Node) (s : Sound
       let d = defined_standing g (rule g n.rule) _ _ q.target in
       let o : e.occurrence ≤ arity g n.rule = subst (λ (y : Equation). y.occurrence ≤ arity g n.rule) m d.occurrence in
       let few = few_attributes g (occurs (rule g n.rule) (get_or (rule g n.rule).equations i (equation_of e)).occurrence) s in
+      let four = (rule_sound g n.rule s f.rule_there).few_right in
       record {
+        occurrence = omega arith;
         attribute = subst (λ (y : Equation). y.attribute < 16) m (let b = d.attribute in omega arith);
+        there = occurrence_within e.occurrence o;
         kid = at_of_firsts p (arity g n.rule) e.occurrence n.children o;
       }
 

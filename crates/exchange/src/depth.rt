@@ -9,9 +9,13 @@ use places::{Place, climb};
 fn depth_in(places: &[Place], block: u16, q: usize) -> u16
     ensures { result ≡ depth_in places.now block q }
 {
-    let summit = climb(places, q);
+    // Asked first, so that no free place is climbed from.
     let used = places.get(q).is_some_and(|place| place.is_some());
-    if used && summit.top == usize::from(block) {
+    if !used {
+        return 0;
+    }
+    let summit = climb(places, q);
+    if summit.top == usize::from(block) {
         summit.depth
     } else {
         0

@@ -52,11 +52,15 @@ module _ (ps : List (Option Node)) where
   }
 
   -- the answer where no parent is left, and where no place is
-  pub passed_ended : (p n d q : ℕ) → parent_at ps q ≡ None → Passed 64 p (suc n) d q → Climbed ps p (record { top = q; depth = d + 1 }) × (true ≡ climbs ps 64 p)
-  passed_ended p n d q e h = (record { top_is = sym (h.top_left ∙ top_end n q e); depth_is = omega (arith, h.depth_left_lem, depth_end n q e) }, sym (h.climbs_left ∙ climbs_end n q e))
+  pub passed_ended : (p n d q : ℕ) → parent_at ps q ≡ None → Passed 64 p (suc n) d q → Climbed ps p (record { top = q; depth = d + 1; ended = true })
+  passed_ended p n d q e h = record {
+    top_is = sym (h.top_left ∙ top_end n q e);
+    depth_is = omega (arith, h.depth_left_lem, depth_end n q e);
+    ended_is = sym (h.climbs_left ∙ climbs_end n q e);
+  }
 
-  pub passed_all : (p q : ℕ) → Passed 64 p 0 64 q → Climbed ps p (record { top = q; depth = 64 }) × (false ≡ climbs ps 64 p)
-  passed_all p q h = (record { top_is = sym h.top_left; depth_is = omega (arith, h.depth_left_lem) }, sym h.climbs_left)
+  pub passed_all : (p q : ℕ) → Passed 64 p 0 64 q → Climbed ps p (record { top = q; depth = 64; ended = false })
+  passed_all p q h = record { top_is = sym h.top_left; depth_is = omega (arith, h.depth_left_lem); ended_is = sym h.climbs_left }
 
   -- a place has no parent, or one
   pub by_parent : {P : Type 0} (p : ℕ) → (parent_at ps p ≡ None → P) → ((u : Parent) → parent_at ps p ≡ Some u → P) → P

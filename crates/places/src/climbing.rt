@@ -1,16 +1,18 @@
 // Climbing from a place to the parents above it.
-ghost use Rattle.std.specs.Prelude.{◌≡◌, ◌<◌, is_ok, Decides, MatchResult};
+ghost use Rattle.std.specs.Prelude.{◌≡◌, ◌<◌, Decides};
 ghost use Rattle.places.specs.Climbs.{Climbed};
 ghost use Rattle.places.specs.Places.{at, parent_at};
 ghost use Rattle.places.specs.Shape.{climbs, InTree, Held};
 
 use super::node::{Node, Parent, Place};
 
-// Where climbing ends, or breaks off after 64 places, and how many places it passes.
+// Where climbing ends, or breaks off after 64 places, how many places it passes, and whether it ends: depth 64 is that of a
+// way that ends at its 64th place and of one that goes on, and the top alone does not tell them apart.
 #[derive(Clone, Copy)]
 pub struct Summit {
     pub top: usize,
     pub depth: u16,
+    pub ended: bool,
 }
 
 // The node at a place; past the end of the table there is none.
@@ -27,33 +29,26 @@ pub fn parent_at(places: &[Place], p: usize) -> Option<Parent>
     (*places.get(p)?)?.parent
 }
 
-// Climbs at most 64 places; an error where it broke off. A chain of steps would have to pass on the place, the count and
-// whether there is more above.
-fn ascend(places: &[Place], p: usize) -> Result<Summit, Summit>
-    ensures summit { MatchResult result (λ s. Climbed places.now p s) (λ s. Climbed places.now p s) }
-    ensures ended { is_ok result ≡ climbs places.now 64 p }
-    ensures fits { MatchResult result (λ s. p < 65536 → s.top < 65536) (λ s. p < 65536 → s.top < 65536) }
-{
-    let mut top = p;
-    for above in 0..64 {
-        let Some(parent) = parent_at(places, top) else {
-            return Ok(Summit {
-                top,
-                depth: above + 1,
-            });
-        };
-        top = usize::from(parent.place);
-    }
-    Err(Summit { top, depth: 64 })
-}
-
-// Climbs at most 64 places.
+// Climbs at most 64 places. A chain of steps would have to pass on the place, the count and whether there is more above.
 pub fn climb(places: &[Place], p: usize) -> Summit
     ensures climbed { Climbed places.now p result }
     ensures fits { p < 65536 → result.top < 65536 }
 {
-    match ascend(places, p) {
-        Ok(summit) | Err(summit) => summit,
+    let mut top = p;
+    for above in 0..64 {
+        let Some(parent) = parent_at(places, top) else {
+            return Summit {
+                top,
+                depth: above + 1,
+                ended: true,
+            };
+        };
+        top = usize::from(parent.place);
+    }
+    Summit {
+        top,
+        depth: 64,
+        ended: false,
     }
 }
 
@@ -61,7 +56,7 @@ pub fn climb(places: &[Place], p: usize) -> Summit
 pub fn ends(places: &[Place], p: usize) -> bool
     ensures { result ≡ climbs places.now 64 p }
 {
-    ascend(places, p).is_ok()
+    climb(places, p).ended
 }
 
 // Whether a place is used and climbing from it ends at the root.

@@ -57,7 +57,8 @@ impl<'a, T: Copy> Pushdown<'a, T> {
     pub fn top(&self) -> Option<T>
         ensures { MatchOption result (self.now.len ≡ 0) (λ x. stacked self.now.cells.now self.now.len ≡ stacked self.now.cells.now (self.now.len - 1) ++ (x ∷ [])) }
     {
+        let last = self.len.checked_sub(1)?;
         let cells: &[T] = self.cells;
-        cells[..self.len].last().copied()
+        Some(cells[last])
     }
 }

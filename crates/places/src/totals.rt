@@ -7,12 +7,19 @@ use super::climbing::{is_in_tree, node_at};
 use super::marks::{count_owed, first_owed};
 use super::node::Place;
 
-// How many places are free.
+// How many places are free. Counted by a loop: the library's count of a filtered chain takes three to eight times as long, and a slip
+// beside a chain's count or sum would be refused for the chain's form and not for its answer.
 pub fn free_places(places: &[Place]) -> usize
     ensures count { result ≡ free_in places.now }
     ensures listed { result ≡ length (free places.now) }
 {
-    places.iter().filter(|place| place.is_none()).count()
+    let mut free = 0;
+    for place in places {
+        if place.is_none() {
+            free += 1;
+        }
+    }
+    free
 }
 
 fn owed_in(place: Place) -> usize

@@ -1,5 +1,5 @@
 -- What holds at each place of a list, and at each place before one.
-use Rattle.std.proofs.Common.{◌≡◌, ℕ, zero, suc, ◌+◌, ◌<◌, ◌≤◌, Bool, true, List, [], ◌∷◌, map, length, get_or, Some, None, Decides, Option, sym, refl, ap, ◌∙◌, subst, ⊎_elim, arith}
+use Rattle.std.proofs.Common.{◌≡◌, ℕ, zero, suc, ◌+◌, ◌<◌, ◌≤◌, Bool, true, List, [], ◌∷◌, map, length, get_or, take, Some, None, Decides, Option, sym, refl, ap, ◌∙◌, subst, ⊎_elim, arith}
 use Rattle.std.specs.Option.{option_map}
 use Rattle.std.specs.List.{AllByRecursion, slice_get}
 use Rattle.std.proofs.lemmas.Option.{slice_get-get_or}
@@ -79,3 +79,10 @@ throughout_map {X} f P xs h m y e = by (slice_get xs m) refl (sym (nth_map f xs 
 
 pub map_throughout : {X Y : Type 0} (f : X → Y) (P : ℕ → Y → Type 0) (xs : List X) → Throughout P (map f xs) → Throughout (λ m x. P m (f x)) xs
 map_throughout f P xs h m x e = h m (f x) (nth_map f xs m ∙ ap (option_map f) e)
+
+-- what stands in the front part of a list stands there in the list
+pub nth_front : {X : Type 0} (n : ℕ) (xs : List X) (m : ℕ) → m < n → slice_get (take n xs) m ≡ slice_get xs m
+nth_front zero xs m h = absurd (omega arith)
+nth_front (suc n) [] m h = refl
+nth_front (suc n) (x ∷ xs) zero h = refl
+nth_front (suc n) (x ∷ xs) (suc m) h = nth_front n xs m (omega arith)

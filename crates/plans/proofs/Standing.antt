@@ -1,7 +1,10 @@
 -- Where an instruction stands in a plan.
-use Rattle.std.proofs.Common.{◌≡◌, ℕ, zero, suc, ◌+◌, Bool, true, false, not, ◌||◌, cond, eqb, ◌⊎◌, List, [], ◌∷◌, length, count_by, Some, Decides, sym, refl, ap, ◌∙◌, inl, inr, ⊎_elim, arith, length-append}
-use Rattle.std.proofs.lemmas.Bool.{ne_eqb}
-use Rattle.std.proofs.lemmas.List.Recursion.{is_count_by}
+use Rattle.std.proofs.Common.{◌≡◌, ℕ, zero, suc, ◌+◌, ◌-◌, Bool, true, false, not, ◌||◌, cond, eqb, ltb, ◌⊎◌, List, [], ◌∷◌, ◌++◌, length, count_by, drop, position, Some, None, Decides, sym, refl, ap, ◌∙◌, inl, inr, ⊎_elim, one-add, arith, length-append}
+use Rattle.std.specs.List.{slice_get, position_or_len}
+use Rattle.std.proofs.lemmas.List.{get_or-append-add}
+use Rattle.std.proofs.lemmas.Option.{slice_get-get_or}
+use Rattle.std.proofs.lemmas.Bool.{ne_eqb, lt-ltb}
+use Rattle.std.proofs.lemmas.List.Recursion.{is_count_by, is_position_or_len}
 use Rattle.std.proofs.lemmas.Bool.Decides.{Decides-eqb, Decides-and, Decides-or, Decides-not, Decides-like, not_from_Decides, nat_tests}
 use Rattle.grammar.specs.declared.terms.Instruction.{Instruction}
 use Rattle.grammar.specs.declared.terms.Instruction.TheVariants.{Evaluate, Visit, Return}
@@ -126,3 +129,57 @@ once_told x (y ∷ is) = by (same_instruction x y) (once_told x is)
 -- it stands once where it is counted once
 pub once_counted : (x : Instruction) (plan : List Instruction) → eqb (count_by (same_instruction x) plan) 1 ≡ once x plan
 once_counted x plan = ap (λ n. eqb n 1) (sym (is_count_by (times x) (same_instruction x) refl (λ _ _. refl) plan)) ∙ once_told x plan
+
+-- how many stand before the first place of it; of all, where it stands nowhere
+abbrev ahead : Instruction → List Instruction → ℕ
+ahead x [] = 0
+ahead x (y ∷ is) = cond (same_instruction x y) 0 (1 + ahead x is)
+
+less_more : (m n : ℕ) → ltb (1 + m) (suc n) ≡ ltb m n
+less_more m n = grind (arith, nat_tests)
+
+behind_first : (x : Instruction) (plan : List Instruction) → cond (ltb (ahead x plan) (length plan)) (not (stands x (drop (1 + ahead x plan) plan))) false ≡ once x plan
+behind_first x [] = refl
+behind_first x (y ∷ is) = by (same_instruction x y) (behind_first x is)
+  where
+    by : (t : Bool) → cond (ltb (ahead x is) (length is)) (not (stands x (drop (1 + ahead x is) is))) false ≡ once x is
+        → cond (ltb (cond t 0 (1 + ahead x is)) (length (y ∷ is))) (not (stands x (drop (1 + cond t 0 (1 + ahead x is)) (y ∷ is)))) false ≡ once_or t x is (once x is)
+    by true h = ap (λ b. cond b (not (stands x is)) false) (lt-ltb 0 (suc (length is)) (omega arith))
+    by false h =
+        ap (λ b. cond b (not (stands x (drop (1 + (1 + ahead x is)) (y ∷ is)))) false) (less_more (ahead x is) (length is))
+        ∙ ap (λ n. cond (ltb (ahead x is) (length is)) (not (stands x (drop n (y ∷ is)))) false) (one-add (1 + ahead x is))
+        ∙ h
+
+-- it stands once where it stands somewhere and nowhere behind its first place
+pub once_behind : (x : Instruction) (plan : List Instruction) → cond (ltb (position_or_len (same_instruction x) plan) (length plan)) (not (stands x (drop (1 + position_or_len (same_instruction x) plan) plan))) false ≡ once x plan
+once_behind x plan = ap (λ n. cond (ltb n (length plan)) (not (stands x (drop (1 + n) plan))) false) (sym (is_position_or_len (ahead x) (same_instruction x) refl (λ _ _. refl) plan)) ∙ behind_first x plan
+
+pub once_nowhere : (x : Instruction) (plan : List Instruction) → position (same_instruction x) plan ≡ None → once x plan ≡ false
+once_nowhere x plan e = by (ltb (position_or_len (same_instruction x) plan) (length plan)) e (once_behind x plan)
+  where
+    by : (t : Bool) → cond t (Some (position_or_len (same_instruction x) plan)) None ≡ None → cond t (not (stands x (drop (1 + position_or_len (same_instruction x) plan) plan))) false ≡ once x plan → once x plan ≡ false
+    by true e h = never (cc)
+    by false e h = sym h
+
+pub once_after : (x : Instruction) (plan : List Instruction) (i : ℕ) → position (same_instruction x) plan ≡ Some i → once x plan ≡ not (stands x (drop (i + 1) plan))
+once_after x plan i e = by (ltb (position_or_len (same_instruction x) plan) (length plan)) e (once_behind x plan)
+  where
+    by : (t : Bool) → cond t (Some (position_or_len (same_instruction x) plan)) None ≡ Some i → cond t (not (stands x (drop (1 + position_or_len (same_instruction x) plan) plan))) false ≡ once x plan → once x plan ≡ not (stands x (drop (i + 1) plan))
+    by true e h = let k : position_or_len (same_instruction x) plan ≡ i = cc in sym h ∙ ap (λ n. not (stands x (drop n plan))) (omega arith)
+    by false e h = never (cc)
+
+less_one : (n : ℕ) → suc n - 1 ≡ n
+less_one n = omega arith
+
+-- a plan ends with what stands at its last place
+pub last_ends : (plan : List Instruction) (x : Instruction) → slice_get plan (length plan - 1) ≡ Some x → EndsWith plan x
+last_ends [] x e = never (cc)
+last_ends (y ∷ []) x e = let same : y ≡ x = cc in ([], ap (λ u. u ∷ []) same)
+last_ends (y ∷ z ∷ is) x e =
+    let h = last_ends (z ∷ is) x (ap (slice_get (z ∷ is)) (less_one (length is)) ∙ sym (ap (slice_get (y ∷ z ∷ is)) (less_one (suc (length is)))) ∙ e) in
+    (y ∷ h.0, ap (λ l. y ∷ l) h.1)
+
+pub ends_last : (plan : List Instruction) (x : Instruction) → EndsWith plan x → slice_get plan (length plan - 1) ≡ Some x
+ends_last plan x (before, e) =
+    let last : length (before ++ x ∷ []) - 1 ≡ length before + 0 = omega (arith, length-append before (x ∷ [])) in
+    ap (λ l. slice_get l (length l - 1)) e ∙ ap (slice_get (before ++ x ∷ [])) last ∙ slice_get-get_or (before ++ x ∷ []) (length before + 0) x (omega (arith, length-append before (x ∷ []))) ∙ ap Some (get_or-append-add before (x ∷ []) 0 x)

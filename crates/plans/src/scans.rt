@@ -1,5 +1,5 @@
 // What stands where in a plan.
-ghost use Rattle.std.specs.Prelude.{◌≡◌};
+ghost use Rattle.std.specs.Prelude.{◌≡◌, position};
 ghost use Rattle.grammar.specs.declared.terms.Instruction.TheVariants.{Evaluate};
 ghost use Rattle.plans.specs.PlanTests.{same_instruction, stands, once};
 
@@ -20,9 +20,19 @@ pub(super) fn evaluated(plan: &[Instruction], o: usize, a: usize) -> bool
     plan.iter().any(|x| evaluates(*x, o, a))
 }
 
-// Whether attribute a of occurrence o is evaluated at one place.
+// How many instructions stand before the first that evaluates attribute a of occurrence o.
+fn before_evaluation(plan: &[Instruction], o: usize, a: usize) -> Option<usize>
+    ensures { result ≡ position (same_instruction (Evaluate o a)) plan.now }
+{
+    plan.iter().position(|x| evaluates(*x, o, a))
+}
+
+// Whether attribute a of occurrence o is evaluated at one place. What stands behind the first is looked through up to a second.
 pub(super) fn evaluated_once(plan: &[Instruction], o: usize, a: usize) -> bool
     ensures { result ≡ once (Evaluate o a) plan.now }
 {
-    plan.iter().filter(|x| evaluates(**x, o, a)).count() == 1
+    let Some(first) = before_evaluation(plan, o, a) else {
+        return false;
+    };
+    !evaluated(&plan[first + 1..], o, a)
 }

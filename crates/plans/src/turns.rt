@@ -26,8 +26,19 @@ impl<'a> Group<'a> {
     fn in_order(&self, occurrence: usize) -> bool
         ensures { result ≡ in_order (group_scope self.now) (group_plan self.now) occurrence }
     {
-        let turns = self.plan.iter().filter_map(|x| turn_of(*x, occurrence));
-        turns.eq(1..=self.production.visits(occurrence))
+        // A loop: of a chain that compares the turns with the numbers from 1 on, the proof fits that one chain alone, and a
+        // slip in the comparison would be refused for the chain's form and not for its answer.
+        let visits = self.production.visits(occurrence);
+        let mut done = 0u16;
+        for x in self.plan {
+            if let Some(turn) = turn_of(*x, occurrence) {
+                if done == visits || turn != done + 1 {
+                    return false;
+                }
+                done += 1;
+            }
+        }
+        done == visits
     }
 
     // Whether the last instruction is the return from the left symbol's last visit.
